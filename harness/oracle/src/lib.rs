@@ -1,0 +1,21 @@
+//! The oracle: the original Rust behind plain functions.
+//!
+//! Names are those of the source. Points and models are arrays of numbers, so
+//! that a caller needs nothing of the originals' own types.
+
+pub mod answers;
+pub mod cases;
+mod numbers;
+mod pick;
+mod sheet;
+
+pub use numbers::{
+    NUMBER, dlt_rank_ok, ensure_finite, quadratic, root, root_refusal, solve_quadratic_real,
+};
+pub use pick::{
+    RansacOptions, Run, Trial, Winner, calculate_iterations, is_better_model, ransac_fit, rms,
+    stop_list,
+};
+pub use sheet::{
+    Mark, Model, Point, distance, dlt_rows, normalize_points_2d, points_are_collinear,
+};

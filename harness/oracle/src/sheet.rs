@@ -1,0 +1,52 @@
+//! Marks: normalising, collinear, the rows, and 01's distance.
+
+use vision_calibration_core::{Pt2, linalg};
+use vision_geometry::{GeometryError, homography};
+
+/// x and y, or u and v.
+pub type Point = [f64; 2];
+/// Sheet x, y and pixel u, v.
+pub type Mark = [f64; 4];
+/// h0 to h8.
+pub type Model = [f64; 9];
+
+fn points(list: &[Point]) -> Vec<Pt2> {
+    list.iter().map(|&[x, y]| Pt2::new(x, y)).collect()
+}
+
+/// The normalised points and the matrix of the change as rows, or none where
+/// there is no spread.
+pub fn normalize_points_2d(list: &[Point]) -> Option<(Vec<Point>, [[f64; 3]; 3])> {
+    let (normalised, matrix) = linalg::normalize_points_2d(&points(list))?;
+    Some((normalised.iter().map(|p| [p.x, p.y]).collect(), matrix.rows))
+}
+
+pub fn points_are_collinear(list: &[Point]) -> bool {
+    homography::open::points_are_collinear(&points(list))
+}
+
+/// The rows of `dlt_homography`, nine numbers each, one row after the other:
+/// the matrix that it hands to `null_space`. Where it refuses before, its error.
+pub fn dlt_rows(marks: &[Mark]) -> Result<Vec<f64>, GeometryError> {
+    let sheet: Vec<Pt2> = marks.iter().map(|m| Pt2::new(m[0], m[1])).collect();
+    let pixel: Vec<Pt2> = marks.iter().map(|m| Pt2::new(m[2], m[3])).collect();
+    nalgebra::recorded();
+    let answer = homography::dlt_homography(&sheet, &pixel);
+    match nalgebra::recorded() {
+        Some(rows) => Ok(rows),
+        None => Err(answer.expect_err("no homography without its rows")),
+    }
+}
+
+/// 01's distance, the residual of the replayed estimator.
+pub fn distance(h: &Model, &[x, y, u, v]: &Mark) -> f64 {
+    let s = (h[6] * x + h[7] * y) + h[8];
+    // Not `s <= 0.0`: a NaN is infinitely far too.
+    if s > 0.0 {
+        let du = ((h[0] * x + h[1] * y) + h[2]) / s - u;
+        let dv = ((h[3] * x + h[4] * y) + h[5]) / s - v;
+        (du * du + dv * dv).sqrt()
+    } else {
+        f64::INFINITY
+    }
+}
