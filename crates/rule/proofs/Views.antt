@@ -1,0 +1,6 @@
+-- From the case of an answer's enum to what it stands for: what is read off the case is what is read off the answer. Assumes nothing.
+use mathlib.Core.Path.{_≡_, sym, ap, _∙_}
+use Rattle.rule.specs.Answer.{Answer}
+
+pub by-case : {E A X : Type 0} (view : E → Answer A) (read : Answer A → X) {q k : E} {answer : Answer A} → q ≡ k → view q ≡ answer → read (view k) ≡ read answer
+by-case view read p e = ap (λ z. read (view z)) (sym p) ∙ ap read e
