@@ -1,0 +1,5 @@
+pub mod Whole
+pub mod Patterns
+pub mod Bits
+pub mod Doubles
+pub mod Correct
