@@ -1,0 +1,55 @@
+-- The doubles that document 01 writes as numbers, by their bit patterns, as a program's literals are. Beside each decimal stands the proof that the
+-- pattern is that decimal, rounded to the nearest double.
+use mathlib.Core.Path.{_≡_, refl}
+use Prim.Native.Nat.{_^_}
+use mathlib.Core.Bool.{false}
+use lib.Ieee.{Float, binary64, ofBits, round}
+
+abbrev pub zero′ : Float
+zero′ = ofBits binary64 0
+
+abbrev pub two : Float
+two = ofBits binary64 0x4000_0000_0000_0000
+
+abbrev pub four : Float
+four = ofBits binary64 0x4010_0000_0000_0000
+
+two-is : two ≡ round binary64 false 2 1
+unfolding ofBits round
+two-is = refl
+
+four-is : four ≡ round binary64 false 4 1
+unfolding ofBits round
+four-is = refl
+
+-- 2 ^ -52, the gap between 1 and the next double: Rust's f64::EPSILON
+abbrev pub epsilon : Float
+epsilon = ofBits binary64 0x3cb0_0000_0000_0000
+
+epsilon-is : epsilon ≡ round binary64 false 1 (2 ^ 52)
+unfolding ofBits round
+epsilon-is = refl
+
+-- 1e-12, below which a coefficient or a discriminant counts as 0
+abbrev pub tiny : Float
+tiny = ofBits binary64 0x3d71_9799_812d_ea11
+
+tiny-is : tiny ≡ round binary64 false 1 (10 ^ 12)
+unfolding ofBits round
+tiny-is = refl
+
+-- 1e-8, below which two roots count as one
+abbrev pub near : Float
+near = ofBits binary64 0x3e45_798e_e230_8c3a
+
+near-is : near ≡ round binary64 false 1 (10 ^ 8)
+unfolding ofBits round
+near-is = refl
+
+-- 1e100, the largest magnitude of a coefficient
+abbrev pub most : Float
+most = ofBits binary64 0x54b2_49ad_2594_c37d
+
+most-is : most ≡ round binary64 false (10 ^ 100) 1
+unfolding ofBits round
+most-is = refl

@@ -1,0 +1,4 @@
+pub mod Constants
+pub mod Finite
+pub mod Quadratic
+pub mod Rank
