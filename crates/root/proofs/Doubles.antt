@@ -4,19 +4,19 @@ use mathlib.Core.Path.{_≡_, refl, sym, ap, ap₂, _∙_, subst}
 use mathlib.Core.Logic.{⊎-elim}
 use mathlib.Core.Bool.{Bool, true, false, not, cond, _||_}
 use Prim.Native.Nat.{ℕ, zero, suc, _+_, _*_, _/_, _%_, _^_, _≤_, _<_}
-use native.Mathlib.Nat.{mod-eq-of-lt, lt-irrefl, lt-trans, zero-lt-suc, le-of-lt, mul-div-cancel}
+use native.Mathlib.Nat.{mod-eq-of-lt, lt-irrefl, lt-trans, zero-lt-suc, mul-div-cancel}
 use native.Mathlib.Omega.{arith}
 use borrow.Author.Tests.{lt-ltb, lt-leb, le-leb, ne-eqb}
 use lib.Dec.{T, ltb, leb, eqb, lit<}
-use lib.Arith.{le→nltb}
 use lib.Ieee.{Float, nan, inf, fin, binary64, down, odd, ofFields, ofBits, toBits, nanBits, fits, isNan, div, lt, le, eq}
 use lib.Ieee.Fits.{down-pos}
-use lib.Ieee.Bits.{ofBits-toBits, nanBits-above}
+use lib.Ieee.Bits.{ofBits-toBits}
 use lib.Ieee.Exact.{HasValue, odd-sign}
 use lib.Ieee.Positive.{positive}
 use Rattle.rule.specs.Refusal.{NUMBER}
 use Rattle.rule.specs.Answer.{refused, gives}
 use Rattle.rule.proofs.Tests.{le-or-gt, or-true, is-test, clash}
+use Rattle.rule.proofs.Nan.{no-nan-bits}
 use Rattle.rule.proofs.Zero.{zero-lt, eq-zero, zero-eq, eq-zeros, zeros-eq}
 use Rattle.root.specs.Double.{units}
 use Rattle.root.specs.Root.{significand, exponent, rootBits, hasRoot, rootOf, rootAnswer}
@@ -141,9 +141,7 @@ pattern-finite a f p =
     )
 
 pub no-nan-pattern : (n : ℕ) → n < 2047 * 2 ^ 52 → T (not (nanBits binary64 n))
-no-nan-pattern n h =
-    let e : n % 2 ^ 63 ≡ n = mod-eq-of-lt (lt-trans h (lit< tt)) in
-    rw (nanBits-above binary64 n, e) (le→nltb (2047 * 2 ^ 52) n (le-of-lt h))
+no-nan-pattern n h = no-nan-bits n (omega arith)
 
 -- ---- the pattern stands for the double's number
 

@@ -1,3 +1,4 @@
 pub mod Tests
 pub mod Zero
 pub mod Views
+pub mod Nan
