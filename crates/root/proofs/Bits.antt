@@ -200,12 +200,9 @@ rounded b r pos t =
       upper = rw (square-of b pos) (upper-of x r (t .rem) h n (t .is) l m (omega arith));
     }
 
-rootBits-is : (b : ℕ) → rootBits b ≡ height b / 2 * 2 ^ 52 + (wholeRoot 54 (scaled b * 2 ^ 54) + 1) / 2
-unfolding rootBits
-rootBits-is b = refl
-
 pub rootBits-root : (b : ℕ) → 0 < b → PatternRoot (value b) (rootBits b)
-rootBits-root b pos = rw (rootBits-is b) (rounded b (wholeRoot 54 (scaled b * 2 ^ 54)) pos (digits54 b pos))
+unfolding rootBits
+rootBits-root b pos = rounded b (wholeRoot 54 (scaled b * 2 ^ 54)) pos (digits54 b pos)
 
 -- ---- of two roots, that of the number that is not smaller is not smaller; so a number has one root
 
@@ -230,10 +227,10 @@ low-height b pos fin =
     omega arith
 
 pub rootBits-finite : (b : ℕ) → 0 < b → b < 2047 * 2 ^ 52 → (0 < rootBits b) × (rootBits b < 2047 * 2 ^ 52)
+unfolding rootBits
 rootBits-finite b pos fin =
     let t = digits54 b pos in
     let k = low-height b pos fin in
-    let e = rootBits-is b in
     let l = t .long in
     let u = t .short in
     (omega arith, omega arith)
@@ -280,6 +277,6 @@ pub root-within : (b r : ℕ) {m e s : ℕ} → 0 < b → Shifted b m e s → r 
 root-within b r pos f h = rw (h ∙ ap (λ (x : ℕ). wholeRoot 54 (x * 2 ^ 54)) (f .up)) (digits54 b pos .short)
 
 pub returned : (b m e s r : ℕ) → Shifted b m e s → r ≡ wholeRoot 54 (m * 2 ^ s % 2 ^ 64 * 2 ^ 54) → (e + 1022 - s) / 2 * 2 ^ 52 + (r + 1) / 2 ≡ rootBits b
+unfolding rootBits
 returned b m e s r f h =
     ap₂ (λ (x y : ℕ). x / 2 * 2 ^ 52 + (y + 1) / 2) (f .height) (h ∙ ap (λ (x : ℕ). wholeRoot 54 (x * 2 ^ 54)) (f .up))
-    ∙ sym (rootBits-is b)

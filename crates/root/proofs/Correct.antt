@@ -8,7 +8,7 @@
 -- Of zero the root is the same zero, of infinity infinity: that is `rootOf`'s own text.
 --
 -- `root-monotone`: of two doubles that have roots, the root of the one that is not smaller is not smaller. Assumes nothing.
-use mathlib.Core.Path.{_≡_, refl, sym, ap, _∙_, subst}
+use mathlib.Core.Path.{_≡_, refl, sym, ap, ap₂, _∙_, subst}
 use mathlib.Core.Bool.{Bool, true, false, _||_, true≢false}
 use mathlib.Core.Logic.{⊎-elim}
 use Prim.Native.Nat.{ℕ, zero, suc, _+_, _-_, _*_, _^_, _≤_, _<_}
@@ -26,7 +26,7 @@ use lib.Ieee.Positive.{positive, positive-of-value, values-of-le}
 use Rattle.rule.proofs.Tests.{or-left, either}
 use Rattle.rule.proofs.Zero.{size-pos, no-size}
 use Rattle.root.specs.Double.{units, nextUp, nextDown}
-use Rattle.root.specs.Root.{IsRoot, rootBits, hasRoot, rootOf}
+use Rattle.root.specs.Root.{lowerMidpoint, upperMidpoint, IsRoot, rootBits, hasRoot, rootOf}
 use Rattle.root.proofs.Patterns.{value, value-mono, significand-pos}
 use Rattle.root.proofs.Bits.{PatternRoot, rootBits-root, rootBits-finite, root-order}
 use Rattle.root.proofs.Doubles.{no-nan, root-positive, pattern-finite, units-read, read-value}
@@ -64,13 +64,21 @@ units-down : {y : Float} {p : ℕ} → Pattern y p → units (nextDown y) ≡ va
 unfolding nextDown
 units-down {y} {p} b = ap (λ (n : ℕ). units (ofBits binary64 (n - 1))) (b .written) ∙ units-read (p - 1) (let f = b .finite in omega arith)
 
+lower-of : {y : Float} {p : ℕ} → Pattern y p → lowerMidpoint y ≡ value (p - 1) + value p
+unfolding lowerMidpoint
+lower-of b = ap₂ _+_ (units-down b) (units-of b)
+
+upper-of : {y : Float} {p : ℕ} → Pattern y p → upperMidpoint y ≡ value p + value (p + 1)
+unfolding upperMidpoint
+upper-of b = ap₂ _+_ (units-of b) (units-up b)
+
 -- `IsRoot` is `PatternRoot` of the patterns
 module _ {a y : Float} {b p : ℕ} (A : Pattern a b) (Y : Pattern y p) where
   from-pattern : PatternRoot (value b) p → IsRoot a y
-  from-pattern r = record { lower = rw (units-of Y, units-down Y, units-of A) (r .lower); upper = rw (units-of Y, units-up Y, units-of A) (r .upper) }
+  from-pattern r = record { lower = rw (lower-of Y, units-of A) (r .lower); upper = rw (upper-of Y, units-of A) (r .upper) }
 
   to-pattern : IsRoot a y → PatternRoot (value b) p
-  to-pattern r = record { lower = rw (units-of Y, units-down Y, units-of A) at (r .lower); upper = rw (units-of Y, units-up Y, units-of A) at (r .upper) }
+  to-pattern r = record { lower = rw (lower-of Y, units-of A) at (r .lower); upper = rw (upper-of Y, units-of A) at (r .upper) }
 
 -- ---- the theorem
 

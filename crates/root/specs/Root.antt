@@ -14,11 +14,19 @@ use Rattle.root.specs.declared.Rooted.the-variants.{Root, Refused}
 
 -- ---- what the root of a finite positive double is
 
--- a lies strictly between the squares of the midpoints from y to its two neighbours. With A, Y and N for a, y and a neighbour in units u = 2 ^ -1074:
--- ((N + Y) / 2 * u) ^ 2 < A * u is (N + Y) ^ 2 < 4 * A * 2 ^ 1074, and so on the other side.
+-- Twice the midpoints from y to its two neighbours, in units. The neighbours are doubles: where y is a power of two the lower one is at half the
+-- spacing of the upper one, and so is its midpoint.
+unfoldable pub lowerMidpoint : Float → ℕ
+lowerMidpoint y = units (nextDown y) + units y
+
+unfoldable pub upperMidpoint : Float → ℕ
+upperMidpoint y = units y + units (nextUp y)
+
+-- a lies strictly between the squares of the midpoints from y to its two neighbours. With A for a and M for twice a midpoint in units u = 2 ^ -1074,
+-- (M / 2 * u) ^ 2 < A * u is M ^ 2 < 4 * (A * 2 ^ 1074).
 pub record IsRoot (a y : Float) : Type 0 where
-  pub lower : (units (nextDown y) + units y) * (units (nextDown y) + units y) < 4 * (units a * 2 ^ 1074)
-  pub upper : 4 * (units a * 2 ^ 1074) < (units y + units (nextUp y)) * (units y + units (nextUp y))
+  pub lower : lowerMidpoint y * lowerMidpoint y < 4 * (units a * 2 ^ 1074)
+  pub upper : 4 * (units a * 2 ^ 1074) < upperMidpoint y * upperMidpoint y
 
 -- ---- the root of the bit pattern b of a finite positive double, as a bit pattern
 

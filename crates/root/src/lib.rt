@@ -138,10 +138,7 @@ pub fn sqrt(a: f64) -> f64
         }
         return a;
     }
-    if a == 0.0 {
-        return a;
-    }
-    0.0 / 0.0
+    if a == 0.0 { a } else { 0.0 / 0.0 }
 }
 
 // The root of `a`; refused with 15 where `a` is a NaN or negative.

@@ -22,8 +22,8 @@ read-full-requires c κs = search needs
 returns : tie.Need-returns Inv-loop μ-loop
 returns c = search needs
 
-read-requires : tie.Need-read-requires Inv-loop μ-loop
-read-requires c κs = search needs
+read-record-requires : tie.Need-read-record-requires Inv-loop μ-loop
+read-record-requires c κs = search needs
 
 counted-requires : tie.Need-counted-requires Inv-loop μ-loop
 counted-requires c κs = search needs
@@ -50,7 +50,7 @@ replay-all-spec =
     slice-aggregate-read-full
     read-full-requires
     returns
-    read-requires
+    read-record-requires
     counted-requires
     sub-turns
     loop-less

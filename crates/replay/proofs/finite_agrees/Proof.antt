@@ -1,10 +1,10 @@
--- `replay::leaves::finite_agrees` meets its contract. Assumes nothing.
+-- `replay::finite_agrees` meets its contract. Assumes nothing.
 use mathlib.Core.Path.{sym}
 use native.Mathlib.Omega.{arith}
 use borrow.Author.Needs.{needs}
 use lib.Seq.{length-take-le}
-use Rattle.replay.proofs.leaves.finite_agrees.Statement.{statement}
-use Rattle.replay.proofs.leaves.finite_agrees.Tie as tie
+use Rattle.replay.proofs.finite_agrees.Statement.{statement}
+use Rattle.replay.proofs.finite_agrees.Tie as tie
 
 element-copy-out-len : tie.Need-element-copy-out-len
 element-copy-out-len c = search needs

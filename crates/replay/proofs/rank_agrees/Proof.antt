@@ -1,10 +1,10 @@
--- `replay::leaves::rank_agrees` meets its contract. Assumes nothing.
+-- `replay::rank_agrees` meets its contract. Assumes nothing.
 use mathlib.Core.Path.{sym}
 use native.Mathlib.Omega.{arith}
 use borrow.Author.Needs.{needs}
 use lib.Seq.{length-take-le}
-use Rattle.replay.proofs.leaves.rank_agrees.Statement.{statement}
-use Rattle.replay.proofs.leaves.rank_agrees.Tie as tie
+use Rattle.replay.proofs.rank_agrees.Statement.{statement}
+use Rattle.replay.proofs.rank_agrees.Tie as tie
 
 element-copy-out-len : tie.Need-element-copy-out-len
 element-copy-out-len c = search needs

@@ -1,8 +1,8 @@
--- `replay::leaves::same` meets its contract. Assumes nothing.
+-- `replay::same` meets its contract. Assumes nothing.
 use borrow.Author.Needs.{needs}
 use Rattle.rule.proofs.Nan.{no-nan-self}
-use Rattle.replay.proofs.leaves.same.Statement.{statement}
-use Rattle.replay.proofs.leaves.same.Tie as tie
+use Rattle.replay.proofs.same.Statement.{statement}
+use Rattle.replay.proofs.same.Tie as tie
 
 returns : tie.Need-returns
 returns c = search needs

@@ -1,8 +1,8 @@
--- `replay::leaves::number` meets its contract. Assumes nothing.
+-- `replay::number` meets its contract. Assumes nothing.
 use borrow.Author.Needs.{needs}
 use Rattle.rule.proofs.Nan.{no-nan-bits}
-use Rattle.replay.proofs.leaves.number.Statement.{statement}
-use Rattle.replay.proofs.leaves.number.Tie as tie
+use Rattle.replay.proofs.number.Statement.{statement}
+use Rattle.replay.proofs.number.Tie as tie
 
 returns : tie.Need-returns
 returns c = search needs
