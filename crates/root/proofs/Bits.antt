@@ -1,6 +1,6 @@
 -- `rootBits` of a pattern is the root's pattern: the number lies strictly between the squares of the midpoints from the root to its neighbours,
 -- which on patterns are one less and one more. Of two such roots the one of the larger number is not smaller. Assumes nothing.
-use mathlib.Core.Path.{_≡_, refl, sym, ap, ap₂, _∙_, subst}
+use mathlib.Core.Path.{_≡_, sym, ap, ap₂, _∙_, subst}
 use mathlib.Core.Logic.{⊎-elim}
 use Prim.Native.Nat.{ℕ, suc, _+_, _-_, _*_, _/_, _%_, _^_, _≤_, _<_}
 use native.Mathlib.Nat.{le-trans, lt-of-lt-of-le, lt-of-le-of-lt, le-of-lt, mul-assoc, mul-left-comm, mul-mul-mul-comm, mul-le-mul, mul-le-mul-right, mul-le-mul-left, mul-lt-mul-of-pos-right, mul-pos, add-mul, one-mul, lt-trans, lt-irrefl, mod-eq-of-lt}

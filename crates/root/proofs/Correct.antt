@@ -5,29 +5,19 @@
 -- nearest to it is `rootOf a` and no other. It is never half-way between two doubles, so the rule for ties is never asked, and each of IEEE 754's
 -- two roundings to nearest gives this double. At a power of two the lower neighbour is at half the spacing, and so is the midpoint: the
 -- neighbours are doubles, not y less and plus one spacing. Roots lie from 2 ^ -537 to 2 ^ 512, so none is subnormal or overflows.
--- Of zero the root is the same zero, of infinity infinity: that is `rootOf`'s own text.
---
--- `root-monotone`: of two doubles that have roots, the root of the one that is not smaller is not smaller. Assumes nothing.
-use mathlib.Core.Path.{_≡_, refl, sym, ap, ap₂, _∙_, subst}
-use mathlib.Core.Bool.{Bool, true, false, _||_, true≢false}
-use mathlib.Core.Logic.{⊎-elim}
-use Prim.Native.Nat.{ℕ, zero, suc, _+_, _-_, _*_, _^_, _≤_, _<_}
-use native.Mathlib.Nat.{le-antisymm, le-refl, lt-trans, mul-pos, le-of-mul-le-mul-right, mul-le-mul-right, zero-lt-suc}
+-- Of zero the root is the same zero, of infinity infinity: that is `rootOf`'s own text. Assumes nothing.
+use mathlib.Core.Path.{_≡_, refl, sym, ap, ap₂, _∙_}
+use Prim.Native.Nat.{ℕ, _+_, _-_, _*_, _^_, _<_}
+use native.Mathlib.Nat.{le-antisymm, le-refl, lt-trans, mul-pos}
 use native.Mathlib.Omega.{arith}
-use lib.Dec.{T, ltb, eqb, lit<, lt→ltb, ltb→lt, eqb→eq}
+use lib.Dec.{T, lit<}
 use lib.Pow.{pow-pos}
-use lib.IntN.{ℤ}
-use lib.Ieee.{Float, nan, inf, fin, binary64, up, down, ofBits, toBits, fits, below, level, le, lt, eq}
-use lib.Ieee.Fits.{and-l, and-r}
+use lib.Ieee.{Float, binary64, ofBits, toBits, fits}
 use lib.Ieee.Bits.{ofBits-toBits, toBits-ofBits, ofBits-fits}
-use lib.Ieee.Exact.{HasValue}
-use lib.Ieee.Order.{le-of-values}
-use lib.Ieee.Positive.{positive, positive-of-value, values-of-le}
-use Rattle.rule.proofs.Tests.{or-left, either}
-use Rattle.rule.proofs.Zero.{size-pos, no-size}
+use lib.Ieee.Positive.{positive, positive-of-value}
 use Rattle.root.specs.Double.{units, nextUp, nextDown}
-use Rattle.root.specs.Root.{lowerMidpoint, upperMidpoint, IsRoot, rootBits, hasRoot, rootOf}
-use Rattle.root.proofs.Patterns.{value, value-mono, significand-pos}
+use Rattle.root.specs.Root.{lowerMidpoint, upperMidpoint, IsRoot, rootBits, rootOf}
+use Rattle.root.proofs.Patterns.{value, significand-pos}
 use Rattle.root.proofs.Bits.{PatternRoot, rootBits-root, rootBits-finite, root-order}
 use Rattle.root.proofs.Doubles.{no-nan, root-positive, pattern-finite, units-read, read-value}
 
@@ -39,7 +29,7 @@ pub record Pattern (y : Float) (p : ℕ) : Type 0 where
   pub written : toBits binary64 y ≡ p
   pub read : ofBits binary64 p ≡ y
 
-pattern : (y : Float) → T (fits binary64 y) → T (positive y) → Pattern y (toBits binary64 y)
+pub pattern : (y : Float) → T (fits binary64 y) → T (positive y) → Pattern y (toBits binary64 y)
 pattern y f p = let b = pattern-finite y f p in record { pos = b .0; finite = b .1; written = refl; read = ofBits-toBits binary64 y f }
 
 value-pos : (p : ℕ) → 0 < p → 0 < value p
@@ -72,10 +62,10 @@ upper-of : {y : Float} {p : ℕ} → Pattern y p → upperMidpoint y ≡ value p
 unfolding upperMidpoint
 upper-of b = ap₂ _+_ (units-of b) (units-up b)
 
--- `IsRoot` is `PatternRoot` of the patterns
+-- the two inequalities of `IsRoot` are `PatternRoot` of the patterns
 module _ {a y : Float} {b p : ℕ} (A : Pattern a b) (Y : Pattern y p) where
-  from-pattern : PatternRoot (value b) p → IsRoot a y
-  from-pattern r = record { lower = rw (lower-of Y, units-of A) (r .lower); upper = rw (upper-of Y, units-of A) (r .upper) }
+  from-pattern : T (fits binary64 y) → T (positive y) → PatternRoot (value b) p → IsRoot a y
+  from-pattern f q r = record { double = f; above-zero = q; lower = rw (lower-of Y, units-of A) (r .lower); upper = rw (upper-of Y, units-of A) (r .upper) }
 
   to-pattern : IsRoot a y → PatternRoot (value b) p
   to-pattern r = record { lower = rw (lower-of Y, units-of A) at (r .lower); upper = rw (upper-of Y, units-of A) at (r .upper) }
@@ -83,12 +73,10 @@ module _ {a y : Float} {b p : ℕ} (A : Pattern a b) (Y : Pattern y p) where
 -- ---- the theorem
 
 pub record Correct (a : Float) : Type 0 where
-  pub double : T (fits binary64 (rootOf a))
-  pub above-zero : T (positive (rootOf a))
   pub is : IsRoot a (rootOf a)
-  pub only : (y : Float) → T (fits binary64 y) → T (positive y) → IsRoot a y → y ≡ rootOf a
+  pub only : (y : Float) → IsRoot a y → y ≡ rootOf a
 
-on-patterns : (a : Float) (b : ℕ) → Pattern a b → Pattern (ofBits binary64 (rootBits b)) (rootBits b)
+pub on-patterns : (a : Float) (b : ℕ) → Pattern a b → Pattern (ofBits binary64 (rootBits b)) (rootBits b)
 on-patterns a b A = let f = rootBits-finite b (A .pos) (A .finite) in made (rootBits b) (f .0) (f .1)
 
 same-pattern : (a y : Float) (b p q : ℕ) → Pattern a b → Pattern y p → PatternRoot (value b) p → PatternRoot (value b) q → 0 < q → y ≡ ofBits binary64 q
@@ -103,86 +91,8 @@ root-correct a f p =
     let r = rootBits-root b (A .pos) in
     let e = root-positive a p in
     record {
-      double = rw e (ofBits-fits binary64 (rootBits b));
-      above-zero = rw e (read-positive (rootBits b) (R .pos) (R .finite));
-      is = rw e (from-pattern A R r);
-      only = λ y g q i. let Y = pattern y g q in same-pattern a y b (toBits binary64 y) (rootBits b) A Y (to-pattern A Y i) r (R .pos) ∙ sym e;
+      is = rw e (from-pattern A R (ofBits-fits binary64 (rootBits b)) (read-positive (rootBits b) (R .pos) (R .finite)) r);
+      only = λ y i.
+          let Y = pattern y (i .double) (i .above-zero) in
+          same-pattern a y b (toBits binary64 y) (rootBits b) A Y (to-pattern A Y i) r (R .pos) ∙ sym e;
     }
-
--- ---- monotone
-
--- of two finite positive doubles
-monotone-positive : (a b : Float) → T (fits binary64 a) → T (fits binary64 b) → T (positive a) → T (positive b) → T (le a b) → T (le (rootOf a) (rootOf b))
-monotone-positive a b f g p q l =
-    let A = pattern a f p in
-    let B = pattern b g q in
-    let m = toBits binary64 a in
-    let n = toBits binary64 b in
-    let R = on-patterns a m A in
-    let S = on-patterns b n B in
-    let c : value m * 2 ^ 1074 ≤ value n * 2 ^ 1074 =
-    values-of-le a b (value m) (2 ^ 1074) (value n) (2 ^ 1074) p q (has-value A) (has-value B) l in
-    let o = root-order (value m) (value n) (rootBits m) (rootBits n) (rootBits-root m (A .pos)) (rootBits-root n (B .pos)) (le-of-mul-le-mul-right c (pow-pos 1074)) (R .pos) in
-    rw (root-positive a p, root-positive b q)
-    (le-of-values (ofBits binary64 (rootBits m)) (ofBits binary64 (rootBits n)) (value (rootBits m)) (2 ^ 1074) (value (rootBits n)) (2 ^ 1074) (pow-pos 1074) (pow-pos 1074) (read-value (rootBits m) (R .finite)) (read-value (rootBits n) (S .finite))
-    (mul-le-mul-right (2 ^ 1074) (value-mono o)))
-  where
-    has-value : {y : Float} {k : ℕ} → Pattern y k → HasValue y false (value k) (2 ^ 1074)
-    has-value {y} {k} b = subst (λ (x : Float). HasValue x false (value k) (2 ^ 1074)) (b .read) (read-value k (b .finite))
-
--- how zeros and signs stand to one another: a and b are magnitudes, no number below zero is at least one that is not, and nothing above zero is at most a zero
-below-zero : (s : Bool) (a b : ℕ) → a ≡ 0 → 0 < b → T (below s a true b || level s a true b) → ⊥
-below-zero true a b z p t =
-    ⊎-elim (λ h. let l = ltb→lt b a h in omega arith) (λ h. let e = eqb→eq a b (and-l (eqb a b) (true || eqb a 0) h) in omega arith) (either (ltb b a) (level true a true b) t)
-below-zero false a b z p t = let e = eqb→eq a b (and-l (eqb a b) (false || eqb a 0) t) in omega arith
-
-above-zero′ : (t : Bool) (a b : ℕ) → 0 < a → (t ≡ false → b ≡ 0) → T (below false a t b || level false a t b) → ⊥
-above-zero′ true a b p z h = let e = eqb→eq a 0 (and-r (eqb a b) (eqb a 0) h) in omega arith
-above-zero′ false a b p z h =
-    let o : b ≡ 0 = z refl in
-    ⊎-elim (λ g. let l = ltb→lt a b g in omega arith) (λ g. let e = eqb→eq a b (and-l (eqb a b) (true || eqb a 0) g) in omega arith) (either (ltb a b) (level false a false b) h)
-
-zero-below : (s : Bool) (e : ℤ) (y : Float) → T (positive y) → T (le (fin s zero e) y)
-unfolding le lt
-zero-below s e nan p = absurd p
-zero-below s e (inf t) p = absurd p
-zero-below s e (fin true n d) p = absurd p
-zero-below s e (fin false zero d) p = absurd p
-zero-below true e (fin false (suc n) d) p =
-    let a = size-pos n d e in
-    or-left (ltb 0 (0 * up e * down d + suc n * up d * down e)) _ (lt→ltb 0 (0 * up e * down d + suc n * up d * down e) (omega arith))
-zero-below false e (fin false (suc n) d) p =
-    let a = size-pos n d e in
-    let z = no-size e d in
-    or-left (ltb (0 * up e * down d) (suc n * up d * down e)) _ (lt→ltb (0 * up e * down d) (suc n * up d * down e) (omega arith))
-
-infinity-above : (y : Float) → T (positive y) → T (le y (inf false))
-unfolding le lt
-infinity-above nan p = absurd p
-infinity-above (inf s) p = absurd p
-infinity-above (fin s m e) p = tt
-
-is-pos : (m : ℕ) → T (ltb 0 (suc m))
-is-pos m = lt→ltb 0 (suc m) (zero-lt-suc m)
-
-pub root-monotone : (a b : Float) → T (fits binary64 a) → T (fits binary64 b) → T (hasRoot a) → T (le a b) → T (le (rootOf a) (rootOf b))
-unfolding hasRoot rootOf le lt eq
-root-monotone nan b f g h l = absurd h
-root-monotone (inf true) b f g h l = absurd h
-root-monotone (inf false) nan f g h l = l
-root-monotone (inf false) (inf true) f g h l = absurd l
-root-monotone (inf false) (inf false) f g h l = l
-root-monotone (inf false) (fin t n d) f g h l = absurd l
-root-monotone (fin true (suc m) e) b f g h l = absurd h
-root-monotone (fin s zero e) nan f g h l = l
-root-monotone (fin s zero e) (inf true) f g h l = absurd l
-root-monotone (fin s zero e) (inf false) f g h l = tt
-root-monotone (fin s zero e) (fin t zero d) f g h l = l
-root-monotone (fin s zero e) (fin false (suc n) d) f g h l = zero-below s e (rootOf (fin false (suc n) d)) (root-correct (fin false (suc n) d) g (is-pos n) .above-zero)
-root-monotone (fin s zero e) (fin true (suc n) d) f g h l = absurd (below-zero s (0 * up e * down d) (suc n * up d * down e) (no-size e d) (size-pos n d e) l)
-root-monotone (fin false (suc m) e) nan f g h l = absurd l
-root-monotone (fin false (suc m) e) (inf true) f g h l = absurd l
-root-monotone (fin false (suc m) e) (inf false) f g h l = infinity-above (rootOf (fin false (suc m) e)) (root-correct (fin false (suc m) e) f (is-pos m) .above-zero)
-root-monotone (fin false (suc m) e) (fin t zero d) f g h l = absurd (above-zero′ t (suc m * up e * down d) (0 * up d * down e) (size-pos m e d) (λ k. no-size d e) l)
-root-monotone (fin false (suc m) e) (fin true (suc n) d) f g h l = absurd (above-zero′ true (suc m * up e * down d) (suc n * up d * down e) (size-pos m e d) (λ k. absurd (true≢false k)) l)
-root-monotone (fin false (suc m) e) (fin false (suc n) d) f g h l = monotone-positive (fin false (suc m) e) (fin false (suc n) d) f g (is-pos m) (is-pos n) l

@@ -3,3 +3,5 @@ pub mod Patterns
 pub mod Bits
 pub mod Doubles
 pub mod Correct
+pub mod Monotone
+pub mod View

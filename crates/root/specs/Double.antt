@@ -3,7 +3,7 @@
 use Prim.Native.Nat.{ℕ, _+_, _-_, _*_, _/_, _^_}
 use lib.Ieee.{Float, nan, inf, fin, binary64, up, down, ofBits, toBits}
 
--- The magnitude of x in units of 2 ^ -1074. An infinity stands where the next double after the largest would be, at 2 ^ 1024.
+-- The magnitude of a double in units of 2 ^ -1074, where the division leaves nothing over. An infinity stands where the next double after the largest would be, at 2 ^ 1024.
 unfoldable pub units : Float → ℕ
 units nan = 0
 units (inf s) = 2 ^ 2098

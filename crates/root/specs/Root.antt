@@ -2,9 +2,10 @@
 -- `rootOf` computes it. That it is the root that 01 describes (`IsRoot`), and the only one, is `proofs/Correct.antt`.
 use mathlib.Core.Bool.{Bool, true, false, not, cond}
 use Prim.Native.Nat.{ℕ, zero, suc, _+_, _-_, _*_, _/_, _%_, _^_, _<_}
-use lib.Dec.{ltb}
+use lib.Dec.{T, ltb}
 use lib.Count.{leadingZeros}
-use lib.Ieee.{Float, nan, inf, fin, binary64, ofBits, toBits}
+use lib.Ieee.{Float, nan, inf, fin, binary64, ofBits, toBits, fits}
+use lib.Ieee.Positive.{positive}
 use Rattle.rule.specs.Refusal.{NUMBER}
 use Rattle.rule.specs.Answer.{Answer, refused, gives}
 use Rattle.root.specs.Double.{units, nextUp, nextDown}
@@ -22,9 +23,11 @@ lowerMidpoint y = units (nextDown y) + units y
 unfoldable pub upperMidpoint : Float → ℕ
 upperMidpoint y = units y + units (nextUp y)
 
--- a lies strictly between the squares of the midpoints from y to its two neighbours. With A for a and M for twice a midpoint in units u = 2 ^ -1074,
+-- y is a positive double, and a lies strictly between the squares of the midpoints from y to its two neighbours. With A for a and M for twice a midpoint in units u = 2 ^ -1074,
 -- (M / 2 * u) ^ 2 < A * u is M ^ 2 < 4 * (A * 2 ^ 1074).
 pub record IsRoot (a y : Float) : Type 0 where
+  pub double : T (fits binary64 y)
+  pub above-zero : T (positive y)
   pub lower : lowerMidpoint y * lowerMidpoint y < 4 * (units a * 2 ^ 1074)
   pub upper : 4 * (units a * 2 ^ 1074) < upperMidpoint y * upperMidpoint y
 
