@@ -2,16 +2,14 @@
 use mathlib.Core.Path.{_≡_, refl, sym, ap, _∙_}
 use mathlib.Core.Bool.{true, false}
 use mathlib.Core.List.{List}
-use Prim.Native.Nat.{ℕ, zero, suc, _+_, _-_, _*_, _≤_, _<_}
+use Prim.Native.Nat.{ℕ, zero, suc, _-_, _*_, _≤_, _<_}
 use native.Mathlib.Nat.{zero-lt-suc, le-of-eq, pow-suc}
-use native.Mathlib.Numerals.{add-one}
 use native.Mathlib.Omega.{arith}
 use borrow.Author.Tests.{lt-ltb, le-ltb}
 use lib.Dec.{T, ltb, eqb→eq}
 use lib.Pow.{pow-pos}
 use lib.IntN.{ℤ, pos, negsuc}
-use lib.ListN.{length, getD, drop, drop-of-length-le}
-use lib.Seq.{drop-cons}
+use lib.ListN.{length, getD}
 use lib.Ieee.{Float, nan, inf, fin, binary64, up, down, ofBits, fits, neg, div, lt, le, eq}
 use Rattle.rule.proofs.Tests.{clash}
 use Rattle.rule.proofs.Zero.{lt-zero, eq-zero, eq-zeros}
@@ -20,7 +18,7 @@ use Rattle.rule.specs.Answer.{refused, gives}
 use Rattle.numbers.specs.Constants.{epsilon, most}
 use Rattle.numbers.specs.Rank.{rankOk}
 use Rattle.numbers.specs.Quadratic.{counts0, linear, curved, discriminant, rootsOf, quadraticAnswer}
-use Rattle.numbers.specs.Finite.{absOf, isFinite, allFinite, within}
+use Rattle.numbers.specs.Finite.{absOf, isFinite, within}
 
 -- ---- abs
 
@@ -69,20 +67,6 @@ within-finite limit x h = rw h
 pub within-not : (limit x : Float) → isFinite x ≡ false → false ≡ within limit x
 unfolding within
 within-not limit x h = rw h
-
--- ---- a list, looked through from its front: what the answer owes from place i on
-
-pub from-here : (l : List Float) (i : ℕ) → i < length l → isFinite (getD l i nan) ≡ true → allFinite (drop i l) ≡ allFinite (drop (i + 1) l)
-unfolding allFinite
-from-here l i h t = rw (add-one i, drop-cons l i nan h, t)
-
-pub stops-here : (l : List Float) (i : ℕ) → i < length l → isFinite (getD l i nan) ≡ false → false ≡ allFinite (drop i l)
-unfolding allFinite
-stops-here l i h t = rw (drop-cons l i nan h, t)
-
-pub all-passed : (l : List Float) (i : ℕ) → length l ≤ i → true ≡ allFinite (drop i l)
-unfolding allFinite
-all-passed l i h = rw (drop-of-length-le l h)
 
 -- ---- rank: each way out of `dlt_rank_ok`, by the tests on the way
 

@@ -8,11 +8,18 @@ use lib.Ieee.{Float, binary64, ofBits, round}
 abbrev pub zero′ : Float
 zero′ = ofBits binary64 0
 
+abbrev pub one : Float
+one = ofBits binary64 0x3ff0_0000_0000_0000
+
 abbrev pub two : Float
 two = ofBits binary64 0x4000_0000_0000_0000
 
 abbrev pub four : Float
 four = ofBits binary64 0x4010_0000_0000_0000
+
+one-is : one ≡ round binary64 false 1 1
+unfolding ofBits round
+one-is = refl
 
 two-is : two ≡ round binary64 false 2 1
 unfolding ofBits round
@@ -53,3 +60,30 @@ most = ofBits binary64 0x54b2_49ad_2594_c37d
 most-is : most ≡ round binary64 false (10 ^ 100) 1
 unfolding ofBits round
 most-is = refl
+
+-- 1e9, the largest magnitude of a coordinate
+abbrev pub farthest : Float
+farthest = ofBits binary64 0x41cd_cd65_0000_0000
+
+farthest-is : farthest ≡ round binary64 false (10 ^ 9) 1
+unfolding ofBits round
+farthest-is = refl
+
+-- 1e-9, the largest distance of two points that count as the same
+abbrev pub samePoint : Float
+samePoint = ofBits binary64 0x3e11_2e0b_e826_d695
+
+samePoint-is : samePoint ≡ round binary64 false 1 (10 ^ 9)
+unfolding ofBits round
+samePoint-is = refl
+
+-- 1e-6, the largest magnitude of the cross product of a point that counts as on a line
+abbrev pub onLine : Float
+onLine = ofBits binary64 0x3eb0_c6f7_a0b5_ed8d
+
+onLine-is : onLine ≡ round binary64 false 1 (10 ^ 6)
+unfolding ofBits round
+onLine-is = refl
+
+abbrev pub infinity : Float
+infinity = ofBits binary64 0x7ff0_0000_0000_0000

@@ -2,3 +2,5 @@ pub mod Tests
 pub mod Zero
 pub mod Views
 pub mod Nan
+pub mod Order
+pub mod Lists

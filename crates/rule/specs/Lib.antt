@@ -1,3 +1,5 @@
 pub mod Refusal
 pub mod Answer
+pub mod Order
 pub mod Arith
+pub mod Lists

@@ -1,0 +1,25 @@
+-- Lists, looked through from the front: a test of every element, a sum, and what is written for each element or into a part.
+use mathlib.Core.Bool.{Bool, true, _&&_}
+use mathlib.Core.List.{List, [], _∷_, _++_}
+use Prim.Native.Nat.{ℕ, _+_}
+use lib.ListN.{length, take, drop}
+use lib.Ieee.{Float}
+use Rattle.rule.specs.Arith.{_⊕_}
+
+unfoldable pub every : {A : Type 0} → (A → Bool) → List A → Bool
+every test [] = true
+every test (a ∷ l) = test a && every test l
+
+-- Document 01: 'Sums run in index order from 0.' Here from `sum`, which is what was added up before.
+unfoldable pub sumFrom : {A : Type 0} → (A → Float) → Float → List A → Float
+sumFrom term sum [] = sum
+sumFrom term sum (a ∷ l) = sumFrom term (sum ⊕ term a) l
+
+-- what is written for each element, one after the other
+unfoldable pub forEach : {A B : Type 0} → (A → List B) → List A → List B
+forEach write [] = []
+forEach write (a ∷ l) = write a ++ forEach write l
+
+-- the list with xs in the place of what stood from `at` on
+unfoldable pub replaced : {A : Type 0} → ℕ → List A → List A → List A
+replaced at xs l = take at l ++ (xs ++ drop (at + length xs) l)
