@@ -1,0 +1,22 @@
+-- `sheet::marks::point_of` meets its contract. Assumes nothing.
+use borrow.Author.Needs.{needs}
+use Rattle.sheet.specs.Marks.{pointOf}
+use Rattle.sheet.proofs.marks.point_of.Statement.{statement}
+use Rattle.sheet.proofs.marks.point_of.Tie as tie
+
+enum-told : tie.Need-enum-told
+enum-told c = search needs
+
+enum-told-2 : tie.Need-enum-told-2
+enum-told-2 c = search needs
+
+returns : tie.Need-returns
+unfolding pointOf
+returns c = rw (c .enum-told .given .1)
+
+returns-2 : tie.Need-returns-2
+unfolding pointOf
+returns-2 c = rw (c .enum-told2 .given .1)
+
+pub point-of-spec : {M : Type 1} → statement M
+point-of-spec = tie.close (tie.spec enum-told enum-told-2 returns returns-2)

@@ -1,0 +1,55 @@
+-- Document 01, 'Distance': the projection by a homography, and the distance of a mark under it. (In the terms of the field, the reprojection residual.)
+use mathlib.Core.Bool.{not, cond}
+use mathlib.Core.List.{List, [], _∷_}
+use lib.Ieee.{Float, lt}
+use Rattle.rule.specs.Refusal.{RECORD}
+use Rattle.rule.specs.Answer.{Answer, refused, gives}
+use Rattle.rule.specs.Order.{Test, firstFailed, decided}
+use Rattle.rule.specs.Arith.{_⊕_, _⊗_, _⊘_}
+use Rattle.root.specs.Root.{rootOf}
+use Rattle.numbers.specs.Constants.{zero′, infinity}
+use Rattle.numbers.specs.Finite.{allFinite}
+use Rattle.sheet.specs.Marks.{pointOf, squaredApart, markNumbers, point}
+use Rattle.sheet.specs.declared.marks.Mark.{Mark}
+use Rattle.sheet.specs.declared.marks.Point.{Point}
+use Rattle.sheet.specs.declared.marks.Side.the-variants.{Sheet, Pixel}
+use Rattle.sheet.specs.declared.model.Model.{Model}
+use Rattle.sheet.specs.declared.model.Projection.{Projection}
+use Rattle.sheet.specs.declared.model.Measured.{Measured}
+use Rattle.sheet.specs.declared.model.Measured.the-variants.{Distance, Refused}
+
+unfoldable pub modelNumbers : Model → List Float
+modelNumbers h = h .h0 ∷ h .h1 ∷ h .h2 ∷ h .h3 ∷ h .h4 ∷ h .h5 ∷ h .h6 ∷ h .h7 ∷ h .h8 ∷ []
+
+-- s = (h6·x + h7·y) + h8, and the mapped u and v: ((h0·x + h1·y) + h2)/s and ((h3·x + h4·y) + h5)/s
+unfoldable pub projectionOf : Model → Point → Projection
+projectionOf h p =
+    let s = h .h6 ⊗ p .x ⊕ h .h7 ⊗ p .y ⊕ h .h8 in
+    record {
+      s = s;
+      at = record { x = (h .h0 ⊗ p .x ⊕ h .h1 ⊗ p .y ⊕ h .h2) ⊘ s; y = (h .h3 ⊗ p .x ⊕ h .h4 ⊗ p .y ⊕ h .h5) ⊘ s };
+    }
+
+-- Infinite unless s > 0, so also where s is a NaN. Else the root of the squared distance of the mapped point to the mark's pixel; where that is
+-- a NaN, so is the distance.
+unfoldable pub distanceOf : Model → Mark → Float
+distanceOf h m =
+    let to = projectionOf h (pointOf Sheet m) in
+    cond (lt zero′ (to .s)) (rootOf (squaredApart (to .at) (pointOf Pixel m))) infinity
+
+-- ---- the entry
+
+-- 1: a number of the model is not finite
+unfoldable pub model : Model → Test
+model h = record { fails = not (allFinite (modelNumbers h)); number = RECORD }
+
+unfoldable pub distanceTests : Model → Mark → List Test
+distanceTests h m = model h ∷ point (markNumbers m) ∷ []
+
+unfoldable pub distanceAnswer : Model → Mark → Answer Float
+distanceAnswer h m = decided (firstFailed (distanceTests h m)) (distanceOf h m)
+
+-- what each case of the entry's answer stands for
+unfoldable pub viewMeasured : Measured → Answer Float
+viewMeasured (Distance d) = gives d
+viewMeasured (Refused k) = refused k
