@@ -2,11 +2,10 @@
 use mathlib.Core.Path.{_≡_, refl, sym, ap, _∙_}
 use mathlib.Core.List.{List}
 use Prim.Native.Nat.{ℕ, _+_, _-_, _*_, _≤_, _<_}
-use native.Mathlib.Omega.{arith}
 use borrow.Rule.Slice.PartMut.{putMid}
 use lib.ListN.{length}
 use lib.Ieee.{Float}
-use Rattle.rule.proofs.Lists.{written, written-none, written-all, written-next, written-length, part-replaced}
+use Rattle.rule.proofs.Lists.{Written, none, same, all, more, part-replaced}
 use Rattle.sheet.specs.Marks.{marksOf, points, pointAt}
 use Rattle.sheet.specs.declared.marks.Point.{Point}
 use Rattle.sheet.specs.declared.marks.Side.{Side}
@@ -23,30 +22,25 @@ pair-wide c p = refl
 
 module _ (change : Change) (side : Side) (l entry : List Float) where
   -- the first i points are written
-  pub record Written (i : ℕ) (s : List Float) : Type 0 where
-    pub is : s ≡ written (pair change) 2 (pair-wide change) (points side l) entry i
+  abbrev pub Points : ℕ → List Float → Type 0
+  Points i s = Written (pair change) 2 (pair-wide change) (points side l) entry i s
 
-  pub none : Written 0 entry
-  none = record { is = written-none (pair change) 2 (pair-wide change) (points side l) entry }
+  pub points-none : Points 0 entry
+  points-none = none (pair change) 2 (pair-wide change) (points side l) entry
 
   module _ {n : ℕ} (count : n ≡ length (marksOf l)) where
-    pub same : {i : ℕ} {s : List Float} → i ≤ n → 2 * length (marksOf l) ≤ length entry → Written i s → length s ≡ length entry
-    same {i} h room k =
-        ap length (k .is)
-        ∙ written-length (pair change) 2 (pair-wide change) (points side l) entry i (rw (points-count side l, ← count) h) (omega (arith, h, room, count))
+    there : n ≡ length (points side l)
+    there = count ∙ sym (points-count side l)
 
-    pub more : {i : ℕ} {s part : List Float} {p q : Point} → i < n → p ≡ pointAt side l i → q ≡ normalizedBy change p → part ≡ pairOf q → Written i s
-        → Written (i + 1) (putMid (2 * i) (2 * i + 2 - 2 * i) s part)
-    more {i} {s} {part} {p} h at by to k =
-        record {
-          is =
-              part-replaced (2 * i) (2 * i + 2) part s (rw (to, by) (ap (λ k. 2 * i + k) (pair-wide change p)))
-              ∙ rw (to, by, at, ← point-read side l i)
-              (written-next (pair change) 2 (pair-wide change) (points side l) entry (noPoint side) i (rw (points-count side l, ← count) h) s (k .is));
-        }
+    pub points-same : {i : ℕ} {s : List Float} → i ≤ n → 2 * length (marksOf l) ≤ length entry → Points i s → length s ≡ length entry
+    points-same h room k = same (pair change) 2 (pair-wide change) (points side l) entry there h (rw count room) k
 
-    pub all : {i : ℕ} {s : List Float} → i ≤ n → n ≤ i → Written i s → s ≡ normalizedList change (points side l) entry
+    pub points-more : {i : ℕ} {s part : List Float} {p q : Point} → i < n → p ≡ pointAt side l i → q ≡ normalizedBy change p → part ≡ pairOf q → Points i s
+        → Points (i + 1) (putMid (2 * i) (2 * i + 2 - 2 * i) s part)
+    points-more {i} {s} {part} {p} h at by to k =
+        more (pair change) 2 (pair-wide change) (points side l) entry there (noPoint side) h k (at ∙ sym (point-read side l i))
+        (rw (to, by) (part-replaced (2 * i) (2 * i + 2) (pair change p) s (ap (λ j. 2 * i + j) (pair-wide change p))))
+
+    pub points-all : {i : ℕ} {s : List Float} → i ≤ n → n ≤ i → Points i s → s ≡ normalizedList change (points side l) entry
     unfolding normalizedList
-    all {i} h g k =
-        k .is
-        ∙ written-all (pair change) 2 (pair-wide change) (points side l) entry i (let e : i ≡ n = omega arith in e ∙ count ∙ sym (points-count side l))
+    points-all h g k = all (pair change) 2 (pair-wide change) (points side l) entry there h g k

@@ -4,7 +4,7 @@ use mathlib.Core.Path.{_≡_, refl, sym, ap, ap₂, _∙_}
 use mathlib.Core.Bool.{Bool, true, false}
 use mathlib.Core.List.{List, [], _∷_, _++_, append-assoc, append-nil}
 use Prim.Native.Nat.{ℕ, suc, _+_, _-_, _*_, _≤_, _<_}
-use native.Mathlib.Nat.{zero-add, add-assoc, le-add-right, mul-zero, mul-suc, le-of-lt, le-of-eq}
+use native.Mathlib.Nat.{zero-add, add-assoc, le-add-right, mul-zero, mul-suc, mul-le-mul-left, le-of-lt, le-of-eq}
 use native.Mathlib.Numerals.{add-one}
 use native.Mathlib.Omega.{arith}
 use borrow.Rule.Slice.PartMut.{putMid, post-is}
@@ -99,37 +99,39 @@ module _ {A B : Type 0} (write : A → List B) (w : ℕ) (wide : (a : A) → len
 
   module _ (l : List A) (entry : List B) where
     -- the lent list after the first i elements
-    unfoldable pub written : ℕ → List B
-    written i = forEach write (take i l) ++ drop (w * i) entry
+    pub record Written (i : ℕ) (s : List B) : Type 0 where
+      pub is : s ≡ forEach write (take i l) ++ drop (w * i) entry
 
-    pub written-length : (i : ℕ) → i ≤ length l → w * i ≤ length entry → length (written i) ≡ length entry
-    unfolding written
-    written-length i h k = rw (length-append, forEach-length (take i l), length-take-le i l h, length-drop) (omega arith)
+    pub none : Written 0 entry
+    unfolding forEach
+    none = record { is = rw (mul-zero w) }
 
-    pub written-none : entry ≡ written 0
-    unfolding written forEach
-    written-none = rw (mul-zero w)
+    module _ {n : ℕ} (count : n ≡ length l) where
+      first : (i : ℕ) → i ≤ n → length (forEach write (take i l)) ≡ w * i
+      first i h = rw (forEach-length (take i l), length-take-le i l (rw (← count) h))
 
-    pub written-all : (i : ℕ) → i ≡ length l → written i ≡ forEach write l ++ drop (w * length l) entry
-    unfolding written
-    written-all i h = rw (h, take-length l)
+      pub same : {i : ℕ} {s : List B} → i ≤ n → w * n ≤ length entry → Written i s → length s ≡ length entry
+      same {i} h room k =
+          ap length (k .is) ∙ rw (length-append, first i h, length-drop) (let g : w * i ≤ w * n = mul-le-mul-left w h in omega (arith, g, room))
 
-    -- Element i goes into its own w places, a part that is lent to its writer, and nothing else changes.
-    module _ (d : A) (i : ℕ) (h : i < length l) where
-      first : length (forEach write (take i l)) ≡ w * i
-      first = rw (forEach-length (take i l), length-take-le i l (le-of-lt h))
+      pub all : {i : ℕ} {s : List B} → i ≤ n → n ≤ i → Written i s → s ≡ forEach write l ++ drop (w * length l) entry
+      all {i} h g k = let e : i ≡ length l = omega (arith, h, g, count) in k .is ∙ rw (e, take-length l)
 
-      next : forEach write (take (suc i) l) ≡ forEach write (take i l) ++ write (getD l i d)
-      next = rw (take-suc l i d h, forEach-append write (take i l) (getD l i d ∷ []), forEach-one write (getD l i d))
+      -- Element i goes into its own w places, a part that is lent to its writer, and nothing else changes.
+      module _ (d : A) {i : ℕ} (inside : i < n) {s : List B} (k : Written i s) where
+        next : forEach write (take (suc i) l) ≡ forEach write (take i l) ++ write (getD l i d)
+        next = rw (take-suc l i d (rw (← count) inside), forEach-append write (take i l) (getD l i d ∷ []), forEach-one write (getD l i d))
 
-      rest : drop (w * i + w) (written i) ≡ drop (w * i + w) entry
-      unfolding written
-      rest =
-          sym (drop-drop w (w * i) (forEach write (take i l) ++ drop (w * i) entry))
-          ∙ ap (drop w) (drop-at (forEach write (take i l)) (drop (w * i) entry) (w * i) first)
-          ∙ drop-drop w (w * i) entry
+        front-is : take (w * i) s ≡ forEach write (take i l)
+        front-is = ap (take (w * i)) (k .is) ∙ take-at (forEach write (take i l)) (drop (w * i) entry) (w * i) (first i (le-of-lt inside))
 
-      pub written-next : (s : List B) → s ≡ written i → replaced (w * i) (write (getD l i d)) s ≡ written (i + 1)
-      unfolding written replaced
-      written-next s e =
-          rw (add-one i, e, wide (getD l i d), take-at (forEach write (take i l)) (drop (w * i) entry) (w * i) first, rest, next, mul-suc w i, append-assoc)
+        rest-is : drop (w * i + w) s ≡ drop (w * i + w) entry
+        rest-is =
+            ap (drop (w * i + w)) (k .is)
+            ∙ sym (drop-drop w (w * i) (forEach write (take i l) ++ drop (w * i) entry))
+            ∙ ap (drop w) (drop-at (forEach write (take i l)) (drop (w * i) entry) (w * i) (first i (le-of-lt inside)))
+            ∙ drop-drop w (w * i) entry
+
+        pub more : {a : A} {t : List B} → a ≡ getD l i d → t ≡ replaced (w * i) (write a) s → Written (i + 1) t
+        unfolding replaced
+        more {a} e f = record { is = f ∙ rw (wide a, front-is, rest-is, add-one i, next, mul-suc w i, e, append-assoc) }

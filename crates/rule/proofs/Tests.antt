@@ -15,6 +15,10 @@ pub or-true : (b : Bool) → (b || true) ≡ true
 or-true true = refl
 or-true false = refl
 
+pub and-true : (b : Bool) → (b && true) ≡ b
+and-true true = refl
+and-true false = refl
+
 pub and-false : (b : Bool) → (b && false) ≡ false
 and-false true = refl
 and-false false = refl

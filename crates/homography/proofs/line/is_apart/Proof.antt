@@ -1,0 +1,24 @@
+-- `homography::line::is_apart` meets its contract. Assumes nothing.
+use borrow.Author.Needs.{needs}
+use Rattle.homography.proofs.Near.{not-apart, is-apart, by-root}
+use Rattle.homography.proofs.line.is_apart.Statement.{statement}
+use Rattle.homography.proofs.line.is_apart.Tie as tie
+
+squared-apart-requires : tie.Need-squared-apart-requires
+squared-apart-requires c κs = search needs
+
+returns : tie.Need-returns
+returns c = not-apart _ _ (c .before .squared-apart .ensures) (c .if1 .taken)
+
+returns-2 : tie.Need-returns-2
+returns-2 c = is-apart _ _ (c .before .before .squared-apart .ensures) (c .if2 .taken)
+
+sqrt-requires : tie.Need-sqrt-requires
+sqrt-requires c κs = search needs
+
+returns-3 : tie.Need-returns-3
+returns-3 c = by-root _ _ (c .before .before .before .squared-apart .ensures) (c .sqrt .ensures)
+
+pub is-apart-spec : {M : Type 1} → statement M
+is-apart-spec =
+    tie.close (tie.spec squared-apart-requires returns returns-2 sqrt-requires returns-3)

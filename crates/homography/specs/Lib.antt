@@ -1,0 +1,2 @@
+pub mod Collinear
+pub mod Rows
