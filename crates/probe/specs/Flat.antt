@@ -1,9 +1,15 @@
--- An answer as plain numbers, for a caller in C or Rust: the refusal's number, how many values, and the value at a place.
-use mathlib.Core.List.{List}
-use Prim.Native.Nat.{ℕ}
+-- Answers as plain numbers, for a caller in C or Rust: the refusal's number, how many values, and the value at a place.
+use mathlib.Core.Bool.{Bool, true, false}
+use mathlib.Core.List.{List, [], _∷_}
+use Prim.Native.Nat.{ℕ, zero, suc}
 use lib.ListN.{length, getD}
 use lib.Ieee.{Float, nan}
 use Rattle.rule.specs.Answer.{Answer, refused, gives}
+use Rattle.rule.specs.Lists.{forEach}
+use Rattle.sheet.specs.declared.marks.Side.{Side}
+use Rattle.sheet.specs.declared.marks.Side.the-variants.{Sheet, Pixel}
+use Rattle.sheet.specs.declared.model.Projection.{Projection}
+use Rattle.linalg.specs.declared.Row.{Row}
 
 -- 0 where the call was not refused
 unfoldable pub refusalOf : Answer Float → ℕ
@@ -19,3 +25,27 @@ countOf (gives l) = length l
 unfoldable pub placeOf : ℕ → Answer (List Float) → Float
 placeOf i (refused k) = nan
 placeOf i (gives l) = getD l i nan
+
+-- the value, or a NaN
+unfoldable pub valueOf : Answer Float → Float
+valueOf (refused k) = nan
+valueOf (gives y) = y
+
+-- no, yes, or the refusal's number, which is above 1
+unfoldable pub toldOf : Answer Bool → ℕ
+toldOf (refused k) = k
+toldOf (gives false) = 0
+toldOf (gives true) = 1
+
+-- a side by number: 0 is the sheet's, any other the pixels'
+unfoldable pub sideOf : ℕ → Side
+sideOf zero = Sheet
+sideOf (suc k) = Pixel
+
+-- s, u or v; a NaN past them
+unfoldable pub partOf : ℕ → Projection → Float
+partOf place q = getD (q .s ∷ q .at .x ∷ q .at .y ∷ []) place nan
+
+-- the entry at a place of a matrix, row by row; a NaN past the last
+unfoldable pub entryOf : ℕ → List Row → Float
+entryOf place rows = getD (forEach (λ row. row .cells) rows) place nan

@@ -1,5 +1,7 @@
-// The leaves for the comparison with the Rust: each one exported with plain numbers, over the C
+// The leaves and entries for the comparison with the Rust: each one exported with plain numbers, over the C
 // calling convention. A NaN stands where an answer has no number.
+mod geometry;
+
 use numbers::Quadratic;
 use root::Rooted;
 ghost use mathlib.Core.Path.{_≡_};

@@ -3,7 +3,7 @@
 use mathlib.Core.Path.{_≡_, refl, sym, ap, ap₂, _∙_}
 use mathlib.Core.Bool.{Bool, true, false}
 use mathlib.Core.List.{List, [], _∷_, _++_, append-assoc, append-nil}
-use Prim.Native.Nat.{ℕ, suc, _+_, _-_, _*_, _≤_, _<_}
+use Prim.Native.Nat.{ℕ, zero, suc, _+_, _-_, _*_, _≤_, _<_}
 use native.Mathlib.Nat.{zero-add, add-assoc, le-add-right, mul-zero, mul-suc, mul-le-mul-left, le-of-lt, le-of-eq}
 use native.Mathlib.Numerals.{add-one}
 use native.Mathlib.Omega.{arith}
@@ -13,6 +13,13 @@ use lib.Seq.{drop-cons, take-suc, take-length, take-at, drop-at, drop-drop, leng
 use lib.Ieee.{Float}
 use Rattle.rule.specs.Arith.{_⊕_}
 use Rattle.rule.specs.Lists.{every, sumFrom, forEach, replaced}
+
+-- ---- a place past the end
+
+pub past-end : {A : Type 0} (l : List A) (i : ℕ) (d : A) → length l ≤ i → d ≡ getD l i d
+past-end [] i d h = refl
+past-end (a ∷ l) zero d h = absurd (omega (arith, h))
+past-end (a ∷ l) (suc i) d h = past-end l i d (omega (arith, h))
 
 -- ---- a test of every element
 

@@ -6,6 +6,7 @@ use native.Mathlib.Nat.{mul-suc}
 use native.Mathlib.Omega.{arith}
 use lib.ListN.{length, getD, length-map, List·getD-map}
 use lib.Ieee.{Float, nan}
+use Rattle.rule.proofs.Lists.{past-end}
 use Rattle.sheet.specs.Marks.{marksOf, markAt, noMark, pointOf, points, pointAt}
 use Rattle.sheet.specs.declared.marks.Mark.{Mark}
 use Rattle.sheet.specs.declared.marks.Point.{Point}
@@ -41,14 +42,9 @@ read (x ∷ y ∷ u ∷ []) i h = absurd (omega (arith, h))
 read (x ∷ y ∷ u ∷ v ∷ rest) zero h = refl
 read (x ∷ y ∷ u ∷ v ∷ rest) (suc i) h = rw (mul-suc 4 i) (later x y u v rest (4 * i) ∙ read rest i (omega (arith, h)))
 
-getD-past : {A : Type 0} (l : List A) (i : ℕ) (d : A) → length l ≤ i → d ≡ getD l i d
-getD-past [] i d h = refl
-getD-past (a ∷ l) zero d h = absurd (omega (arith, h))
-getD-past (a ∷ l) (suc i) d h = getD-past l i d (omega (arith, h))
-
 pub no-mark : (l : List Float) (i : ℕ) → length l / 4 ≤ i → noMark ≡ markAt l i
 unfolding markAt
-no-mark l i h = getD-past (marksOf l) i noMark (rw (count l) h)
+no-mark l i h = past-end (marksOf l) i noMark (rw (count l) h)
 
 -- ---- the points of a side
 
