@@ -1,9 +1,15 @@
-// The cases of document 01, 'Sheets to try', that the number leaves reach, and some traps beside
-// them: each with what it answers, doubles as 16 hexadecimal digits. The file `stdout` has the
-// answers that 01 gives.
+// The cases of document 01, 'Sheets to try' and 'Refusals', that the entries so far reach, and some
+// traps beside them: each with what it answers, doubles as 16 hexadecimal digits. The file `stdout`
+// has the answers that 01 gives.
+use homography::Collinear;
 use libc::STDOUT_FILENO;
 use numbers::Quadratic;
 use root::Rooted;
+use sheet::Mark;
+use sheet::Measured;
+use sheet::Model;
+use sheet::Side;
+ghost use Prim.Native.Nat.{_≤_};
 
 fn print(text: &[u8]) {
     io::write_all(STDOUT_FILENO, text);
@@ -119,8 +125,242 @@ fn ranks() {
     );
 }
 
+// Of a list, the first `n` numbers are the marks asked about, here and below.
+fn show_collinear(name: &[u8], marks: [f64; 16], n: usize, side: Side)
+    requires { ⌜ n ≤ 16 ⌝ }
+{
+    print(name);
+    let answer = homography::points_are_collinear(&marks[..n], side);
+    match answer {
+        Collinear::Yes => print(b" yes"),
+        Collinear::No => print(b" no"),
+        Collinear::Refused(k) => print_refused(k),
+    }
+    print(b"\n");
+}
+
+// The first `n` places of a lent list, each number by its bits.
+fn print_places(lent: &[f64; 72], n: usize)
+    requires { ⌜ n ≤ 72 ⌝ }
+{
+    let mut i = 0;
+    while i < n {
+        print_double(lent[i]);
+        i += 1;
+    }
+}
+
+// The refusal, if it is one; five places of a list of 7.0, of which the first `room` were lent; and
+// the last column of the matrix.
+fn show_normalized(name: &[u8], marks: [f64; 16], n: usize, side: Side, room: usize)
+    requires { ⌜ (n ≤ 16) × (room ≤ 72) ⌝ }
+{
+    print(name);
+    let mut lent = [7.0; 72];
+    let answer = linalg::normalize_points_2d(&marks[..n], side, &mut lent[..room]);
+    let first = answer.matrix[0];
+    let second = answer.matrix[1];
+    if answer.refusal != 0 {
+        print_refused(answer.refusal);
+    }
+    print_places(&lent, 5);
+    print(b", centre");
+    print_double(first.cells[2]);
+    print_double(second.cells[2]);
+    print(b"\n");
+}
+
+// The refusal, or the first mark's two rows.
+fn show_rows(name: &[u8], marks: [f64; 16], n: usize, room: usize)
+    requires { ⌜ (n ≤ 16) × (room ≤ 72) ⌝ }
+{
+    print(name);
+    let mut lent = [7.0; 72];
+    let refusal = homography::dlt_rows(&marks[..n], &mut lent[..room]);
+    if refusal != 0 {
+        print_refused(refusal);
+    } else {
+        print_places(&lent, 18);
+    }
+    print(b"\n");
+}
+
+fn show_distance(name: &[u8], h: Model, m: Mark) {
+    print(name);
+    let answer = sheet::distance(h, m);
+    match answer {
+        Measured::Distance(d) => print_double(d),
+        Measured::Refused(k) => print_refused(k),
+    }
+    print(b"\n");
+}
+
+fn at(x: f64, y: f64, u: f64, v: f64) -> Mark {
+    Mark { x, y, u, v }
+}
+
+// Four marks as a list of numbers.
+fn list(a: Mark, b: Mark, c: Mark, d: Mark) -> [f64; 16] {
+    [
+        a.x,
+        a.y,
+        a.u,
+        a.v,
+        b.x,
+        b.y,
+        b.u,
+        b.v,
+        c.x,
+        c.y,
+        c.u,
+        c.v,
+        d.x,
+        d.y,
+        d.u,
+        d.v,
+    ]
+}
+
+// On a line on the sheet, and not as pixels.
+fn sheet_line() -> [f64; 16] {
+    list(
+        at(0.0, 0.0, 0.0, 0.0),
+        at(1.0, 0.0, 1.0, 1.0),
+        at(2.0, 0.0, 0.0, 2.0),
+        at(3.0, 0.0, 3.0, 3.0),
+    )
+}
+
+fn lines() {
+    let origin = at(0.0, 0.0, 0.0, 0.0);
+    let nearly = list(
+        origin,
+        at(0.0005, 0.0, 0.0, 0.0),
+        at(0.0, 0.001, 0.0, 0.0),
+        origin,
+    );
+    let straight = sheet_line();
+    let wide = list(origin, at(2e9, 0.0, 0.0, 0.0), origin, origin);
+    show_collinear(
+        b"collinear (0,0) (0.0005,0) (0,0.001):",
+        nearly,
+        12,
+        Side::Sheet,
+    );
+    show_collinear(b"collinear two points:", straight, 8, Side::Sheet);
+    show_collinear(b"collinear no points:", straight, 0, Side::Sheet);
+    show_collinear(
+        b"collinear (0,0) (1,0) (2,0) (3,0):",
+        straight,
+        16,
+        Side::Sheet,
+    );
+    show_collinear(b"collinear their pixels:", straight, 16, Side::Pixel);
+    show_collinear(b"collinear 7 numbers:", straight, 7, Side::Sheet);
+    show_collinear(b"collinear x = 2e9:", wide, 16, Side::Pixel);
+}
+
+fn normalisings() {
+    let origin = at(0.0, 0.0, 0.0, 0.0);
+    let pair = list(
+        at(1.0, 1.0, 0.0, 0.0),
+        at(-1.0, -1.0, 0.0, 0.0),
+        origin,
+        origin,
+    );
+    let signed = list(
+        at(-0.0, 1.0, 0.0, 0.0),
+        at(-0.0, 3.0, 4.440892098500626e-16, 0.0),
+        origin,
+        origin,
+    );
+    show_normalized(b"normalising (1,1) (-1,-1):", pair, 8, Side::Sheet, 4);
+    show_normalized(b"normalising (-0,1) (-0,3):", signed, 8, Side::Sheet, 5);
+    show_normalized(b"normalising two at (0,0):", pair, 8, Side::Pixel, 4);
+    show_normalized(b"normalising (0,0) (2^-51,0):", signed, 8, Side::Pixel, 4);
+    show_normalized(b"normalising no points:", pair, 0, Side::Sheet, 4);
+    show_normalized(
+        b"normalising two points, 3 places:",
+        pair,
+        8,
+        Side::Sheet,
+        3,
+    );
+}
+
+// The square around the origin: its normalised points are its own.
+fn rows() {
+    let square = list(
+        at(1.0, 1.0, 1.0, 1.0),
+        at(-1.0, 1.0, -1.0, 1.0),
+        at(-1.0, -1.0, -1.0, -1.0),
+        at(1.0, -1.0, 1.0, -1.0),
+    );
+    let sheet = sheet_line();
+    let pixel = list(
+        at(0.0, 0.0, 0.0, 0.0),
+        at(1.0, 1.0, 1.0, 0.0),
+        at(0.0, 2.0, 2.0, 0.0),
+        at(3.0, 3.0, 3.0, 0.0),
+    );
+    show_rows(b"rows of four marks, 71 places:", square, 16, 71);
+    show_rows(b"rows of three marks:", square, 12, 72);
+    show_rows(b"rows, sheet on a line:", sheet, 16, 72);
+    show_rows(b"rows, pixels on a line:", pixel, 16, 72);
+    show_rows(b"rows of (1,1), the first of four marks:", square, 16, 72);
+}
+
+// The identity but for h5, h6, h7 and h8.
+fn model(h5: f64, h6: f64, h7: f64, h8: f64) -> Model {
+    Model {
+        h0: 1.0,
+        h1: 0.0,
+        h2: 0.0,
+        h3: 0.0,
+        h4: 1.0,
+        h5,
+        h6,
+        h7,
+        h8,
+    }
+}
+
+fn distances() {
+    let middle = at(50.0, 50.0, 50.0, 53.0);
+    let wide = at(1e9, 1e9, 0.0, 2e9);
+    let far = at(1e9, 1e9, 0.0, 0.0);
+    let none = 0.0 / 0.0;
+    show_distance(
+        b"distance under I of (50,50) at pixel (50,53):",
+        model(0.0, 0.0, 0.0, 1.0),
+        middle,
+    );
+    show_distance(b"distance with h5 = 3:", model(3.0, 0.0, 0.0, 1.0), middle);
+    show_distance(
+        b"distance with h8 = -1:",
+        model(0.0, 0.0, 0.0, -1.0),
+        middle,
+    );
+    show_distance(b"distance with s = 0:", model(0.0, 0.0, 0.0, 0.0), middle);
+    show_distance(
+        b"distance with s a NaN:",
+        model(0.0, 1e308, -1e308, 1.0),
+        far,
+    );
+    show_distance(
+        b"distance with h8 a NaN, and v = 2e9:",
+        model(0.0, 0.0, 0.0, none),
+        wide,
+    );
+    show_distance(b"distance with v = 2e9:", model(0.0, 0.0, 0.0, 1.0), wide);
+}
+
 fn main() {
     roots();
     quadratics();
     ranks();
+    lines();
+    normalisings();
+    rows();
+    distances();
 }
