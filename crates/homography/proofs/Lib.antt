@@ -2,3 +2,4 @@ pub mod Near
 pub mod Baseline
 pub mod Writing
 pub mod Outcomes
+pub mod View

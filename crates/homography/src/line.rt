@@ -21,11 +21,11 @@ fn is_apart(p0: Point, p: Point) -> bool
     ensures { λ r. ⌜ r ≡ apart p0 p ⌝ }
 {
     let square = sheet::squared_apart(p, p0);
-    if square <= 1.0000000000000003e-18 {
-        return false;
-    }
     if 1.0000000000000005e-18 <= square {
         return true;
+    }
+    if square <= 1.0000000000000003e-18 {
+        return false;
     }
     1e-9 < root::sqrt(square)
 }

@@ -1,5 +1,5 @@
--- Lists, looked through from the front: a test of every element, a sum, and what is written for each element or into a part.
-use mathlib.Core.Bool.{Bool, true, _&&_}
+-- Lists, looked through from the front: a test of every element, a count, a sum, and what is written for each element or into a part.
+use mathlib.Core.Bool.{Bool, true, _&&_, cond}
 use mathlib.Core.List.{List, [], _∷_, _++_}
 use Prim.Native.Nat.{ℕ, _+_}
 use lib.ListN.{length, take, drop}
@@ -9,6 +9,10 @@ use Rattle.rule.specs.Arith.{_⊕_}
 unfoldable pub every : {A : Type 0} → (A → Bool) → List A → Bool
 every test [] = true
 every test (a ∷ l) = test a && every test l
+
+unfoldable pub countOf : {A : Type 0} → (A → Bool) → List A → ℕ
+countOf test [] = 0
+countOf test (a ∷ l) = cond (test a) 1 0 + countOf test l
 
 -- Document 01: 'Sums run in index order from 0.' Here from `sum`, which is what was added up before.
 unfoldable pub sumFrom : {A : Type 0} → (A → Float) → Float → List A → Float

@@ -1,7 +1,7 @@
 -- Document 01, 'Distance': the projection by a homography, and the distance of a mark under it. (In the terms of the field, the reprojection residual.)
-use mathlib.Core.Bool.{not, cond}
+use mathlib.Core.Bool.{Bool, not, cond}
 use mathlib.Core.List.{List, [], _∷_}
-use lib.Ieee.{Float, lt}
+use lib.Ieee.{Float, lt, le}
 use Rattle.rule.specs.Refusal.{RECORD}
 use Rattle.rule.specs.Answer.{Answer, refused, gives}
 use Rattle.rule.specs.Order.{Test, firstFailed, decided}
@@ -36,6 +36,10 @@ unfoldable pub distanceOf : Model → Mark → Float
 distanceOf h m =
     let to = projectionOf h (pointOf Sheet m) in
     cond (lt zero′ (to .s)) (rootOf (squaredApart (to .at) (pointOf Pixel m))) infinity
+
+-- The mark lies within the threshold under the model: in the terms of the field, it is an inlier. A NaN is not within it.
+unfoldable pub inlier : Model → Float → Mark → Bool
+inlier h thresh m = le (distanceOf h m) thresh
 
 -- ---- the entry
 

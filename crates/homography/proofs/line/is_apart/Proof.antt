@@ -8,10 +8,10 @@ squared-apart-requires : tie.Need-squared-apart-requires
 squared-apart-requires c κs = search needs
 
 returns : tie.Need-returns
-returns c = not-apart _ _ (c .before .squared-apart .ensures) (c .if1 .taken)
+returns c = is-apart _ _ (c .before .squared-apart .ensures) (c .if1 .taken)
 
 returns-2 : tie.Need-returns-2
-returns-2 c = is-apart _ _ (c .before .before .squared-apart .ensures) (c .if2 .taken)
+returns-2 c = not-apart _ _ (c .before .before .squared-apart .ensures) (c .if2 .taken)
 
 sqrt-requires : tie.Need-sqrt-requires
 sqrt-requires c κs = search needs
