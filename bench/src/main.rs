@@ -1,55 +1,20 @@
-//! Times the proved root beside the machine's: nanoseconds a root, the median
-//! of several rounds.
-//!
-//! Throughput takes the roots of a slice one by one, none waiting for the one
-//! before. Latency makes each root wait for the one before. The machine's root
-//! is timed as a call, as the proved one is, and inlined, where the compiler
-//! may also take two at a time.
+//! Times the proved code beside the Rust's, in one run: the medians of several
+//! rounds.
 
-use oracle::cases::Random;
-use std::hint::black_box;
+mod root;
+mod sheet;
+
 use std::time::Instant;
 
-const SLICE: usize = 4096;
 const ROUNDS: usize = 15;
 
-#[inline(never)]
-fn machine_call(a: f64) -> f64 {
-    a.sqrt()
-}
-
-#[inline(always)]
-fn machine_inlined(a: f64) -> f64 {
-    a.sqrt()
-}
-
-#[inline(always)]
-fn throughput(numbers: &[f64], root: impl Fn(f64) -> f64) -> u64 {
-    let mut all = 0;
-    for &a in numbers {
-        all ^= root(a).to_bits();
-    }
-    all
-}
-
-/// The sign of a root is 0 here, which only the machine knows: the next
-/// number waits for it and stays what it is.
-#[inline(always)]
-fn latency(numbers: &[f64], root: impl Fn(f64) -> f64) -> u64 {
-    let mut last = 0.0f64;
-    for &a in numbers {
-        last = root(f64::from_bits(a.to_bits() | last.to_bits() >> 63));
-    }
-    last.to_bits()
-}
-
-/// Nanoseconds a root in one round of many passes over the slice.
-fn round(numbers: &[f64], passes: usize, pass: impl Fn(&[f64]) -> u64) -> f64 {
+/// Nanoseconds a pass, over many passes.
+fn nanoseconds(passes: usize, mut pass: impl FnMut()) -> f64 {
     let start = Instant::now();
     for _ in 0..passes {
-        black_box(pass(black_box(numbers)));
+        pass();
     }
-    start.elapsed().as_nanos() as f64 / (passes * numbers.len()) as f64
+    start.elapsed().as_nanos() as f64 / passes as f64
 }
 
 fn median(mut times: Vec<f64>) -> f64 {
@@ -57,48 +22,8 @@ fn median(mut times: Vec<f64>) -> f64 {
     times[times.len() / 2]
 }
 
-/// Times the three roots in turn, and prints them with their ratios.
-fn compare(
-    title: &str,
-    numbers: &[f64],
-    proved: impl Fn(&[f64]) -> u64,
-    called: impl Fn(&[f64]) -> u64,
-    inlined: impl Fn(&[f64]) -> u64,
-) {
-    assert_eq!(proved(numbers), called(numbers));
-    assert_eq!(proved(numbers), inlined(numbers));
-    let mut times = [const { Vec::new() }; 3];
-    for _ in 0..ROUNDS {
-        times[0].push(round(numbers, 100, &proved));
-        times[1].push(round(numbers, 1000, &called));
-        times[2].push(round(numbers, 1000, &inlined));
-    }
-    let [p, c, i] = times.map(median);
-    println!(
-        "{title:<11} {p:>8.2} {c:>14.2} {i:>17.2} {:>14.2} {:>16.2}",
-        p / c,
-        p / i
-    );
-}
-
 fn main() {
-    let random = &mut Random::new(8);
-    let numbers: Vec<f64> = (0..SLICE).map(|_| random.sized(0, 2046)).collect();
-    println!(
-        "ns a root     proved  machine called  machine inlined  proved/called  proved/inlined"
-    );
-    compare(
-        "throughput",
-        &numbers,
-        |list| throughput(list, proved::sqrt),
-        |list| throughput(list, machine_call),
-        |list| throughput(list, machine_inlined),
-    );
-    compare(
-        "latency",
-        &numbers,
-        |list| latency(list, proved::sqrt),
-        |list| latency(list, machine_call),
-        |list| latency(list, machine_inlined),
-    );
+    root::run();
+    println!();
+    sheet::run();
 }

@@ -12,3 +12,43 @@ pub fn cases(usual: usize) -> usize {
 pub fn same(a: f64, b: f64) -> bool {
     a.to_bits() == b.to_bits() || (a.is_nan() && b.is_nan())
 }
+
+/// The same bits at every place.
+pub fn same_lists(a: &[f64], b: &[f64]) -> bool {
+    a.len() == b.len() && a.iter().zip(b).all(|(&x, &y)| same(x, y))
+}
+
+/// A list to lend: no two places hold the same, and no answer is so large.
+pub fn junk(len: usize) -> Vec<f64> {
+    (0..len).map(|place| 1e12 + place as f64).collect()
+}
+
+/// Whether a run of so many random cases must meet every answer: a short one
+/// need not.
+pub fn is_long(count: usize) -> bool {
+    count >= 10_000
+}
+
+/// How often each answer came: the refusals by their numbers, 0 for accepted.
+#[derive(Default)]
+pub struct Tally([usize; 16]);
+
+impl Tally {
+    pub fn add(&mut self, number: u32) {
+        self.0[number as usize] += 1;
+    }
+
+    /// Prints the answers that came.
+    pub fn show(&self, title: &str) {
+        let came = self.0.iter().enumerate().filter(|(_, count)| **count > 0);
+        let text: Vec<String> = came.map(|(k, count)| format!("{k}: {count}")).collect();
+        println!("{title}: {}", text.join(", "));
+    }
+
+    /// Sees that these all came.
+    pub fn met(&self, numbers: &[u32]) {
+        for &k in numbers {
+            assert!(self.0[k as usize] > 0, "no case of {k}");
+        }
+    }
+}

@@ -5,9 +5,12 @@
 
 pub mod answers;
 pub mod cases;
+pub mod entries;
 mod numbers;
 mod pick;
 mod sheet;
+pub mod sheet_cases;
+pub mod sheets;
 
 pub use numbers::{
     NUMBER, dlt_rank_ok, ensure_finite, quadratic, root, root_refusal, solve_quadratic_real,

@@ -1,8 +1,8 @@
 //! The sheet's leaves really run, and what 01 says of them by example.
 
+use oracle::entries::collinear_by_the_paper;
+use oracle::sheet_cases::{HYPOT_NO, HYPOT_YES, SQUARE};
 use oracle::{Mark, Point, distance, dlt_rows, normalize_points_2d, points_are_collinear};
-
-const SQUARE: [Point; 4] = [[0.0, 0.0], [100.0, 0.0], [100.0, 100.0], [0.0, 100.0]];
 
 fn marks(sheet: &[Point], pixel: &[Point]) -> Vec<Mark> {
     let pairs = sheet.iter().zip(pixel);
@@ -51,31 +51,16 @@ fn collinear() {
     assert!(!points_are_collinear(&[[1.0, 1.0]; 2]));
 }
 
-/// 01's rule: the root of the sum of squares in both closeness tests.
-fn collinear_by_the_paper(list: &[Point]) -> bool {
-    let p0 = list[0];
-    let far = |p: &&Point| {
-        let (dx, dy) = (p[0] - p0[0], p[1] - p0[1]);
-        (dx * dx + dy * dy).sqrt() > 1e-9
-    };
-    let Some(p1) = list.iter().find(far) else {
-        return true;
-    };
-    list.iter().filter(far).all(|p2| {
-        let cross = (p1[0] - p0[0]) * (p2[1] - p0[1]) - (p1[1] - p0[1]) * (p2[0] - p0[0]);
-        cross.abs() <= 1e-6
-    })
-}
-
-/// A difference: the Rust's second closeness test uses `hypot`.
+/// A difference, both ways: the Rust's second closeness test uses `hypot`.
 #[test]
 fn collinear_where_hypot_differs() {
-    let third = [1.170_417_781_865_231_8e-10, 9.931_269_919_597_076e-10];
-    let sheet = [[0.0, 0.0], [1e6, 0.0], third, [2e6, 0.0]];
-    assert!(collinear_by_the_paper(&sheet));
-    assert!(!points_are_collinear(&sheet));
-    assert!(third[0].hypot(third[1]) > 1e-9);
-    assert!((third[0] * third[0] + third[1] * third[1]).sqrt() <= 1e-9);
+    for (list, answer) in [(HYPOT_YES, true), (HYPOT_NO, false)] {
+        assert_eq!(collinear_by_the_paper(&list), answer);
+        assert_eq!(points_are_collinear(&list), !answer);
+        let [dx, dy] = list[2];
+        assert_eq!(dx.hypot(dy) <= 1e-9, !answer);
+        assert_eq!((dx * dx + dy * dy).sqrt() <= 1e-9, answer);
+    }
 }
 
 #[test]

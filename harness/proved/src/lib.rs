@@ -1,4 +1,7 @@
 //! The proved leaves, from the archive libprobe.a.
+//!
+//! Marks are one flat list, four numbers each. A side is 0 for the sheet and
+//! anything else for the pixels. A lent list is written from its front.
 
 mod c {
     unsafe extern "C" {
@@ -17,6 +20,91 @@ mod c {
         pub safe fn probe_abs(x: f64) -> f64;
         pub safe fn probe_is_finite(x: f64) -> bool;
         pub safe fn probe_within(x: f64, limit: f64) -> bool;
+        pub unsafe fn probe_normalize_points_2d(
+            marks: *const f64,
+            len: usize,
+            side: u32,
+            points: *mut f64,
+            room: usize,
+        ) -> u32;
+        pub unsafe fn probe_normalize_matrix(
+            marks: *const f64,
+            len: usize,
+            side: u32,
+            points: *mut f64,
+            room: usize,
+            place: u32,
+        ) -> f64;
+        pub unsafe fn probe_points_are_collinear(marks: *const f64, len: usize, side: u32) -> u32;
+        pub unsafe fn probe_dlt_rows(
+            marks: *const f64,
+            len: usize,
+            rows: *mut f64,
+            room: usize,
+        ) -> u32;
+        #[rustfmt::skip]
+        pub safe fn probe_distance_refusal(
+            h0: f64,
+            h1: f64,
+            h2: f64,
+            h3: f64,
+            h4: f64,
+            h5: f64,
+            h6: f64,
+            h7: f64,
+            h8: f64,
+            x: f64,
+            y: f64,
+            u: f64,
+            v: f64,
+        ) -> u32;
+        #[rustfmt::skip]
+        pub safe fn probe_distance(
+            h0: f64,
+            h1: f64,
+            h2: f64,
+            h3: f64,
+            h4: f64,
+            h5: f64,
+            h6: f64,
+            h7: f64,
+            h8: f64,
+            x: f64,
+            y: f64,
+            u: f64,
+            v: f64,
+        ) -> f64;
+        #[rustfmt::skip]
+        pub safe fn probe_residual(
+            h0: f64,
+            h1: f64,
+            h2: f64,
+            h3: f64,
+            h4: f64,
+            h5: f64,
+            h6: f64,
+            h7: f64,
+            h8: f64,
+            x: f64,
+            y: f64,
+            u: f64,
+            v: f64,
+        ) -> f64;
+        #[rustfmt::skip]
+        pub safe fn probe_projection(
+            h0: f64,
+            h1: f64,
+            h2: f64,
+            h3: f64,
+            h4: f64,
+            h5: f64,
+            h6: f64,
+            h7: f64,
+            h8: f64,
+            x: f64,
+            y: f64,
+            place: u32,
+        ) -> f64;
     }
 }
 
@@ -63,4 +151,76 @@ pub fn is_finite(x: f64) -> bool {
 /// Finite and of magnitude at most the limit.
 pub fn within(x: f64, limit: f64) -> bool {
     c::probe_within(x, limit)
+}
+
+/// 0, or the refusal; the normalised points, x and y in turn, go to the lent
+/// list.
+pub fn normalize_points_2d(marks: &[f64], side: u32, points: &mut [f64]) -> u32 {
+    // SAFETY: the pointers and lengths are those of slices; the first is only
+    // read, and the second is borrowed for this call alone.
+    unsafe {
+        c::probe_normalize_points_2d(
+            marks.as_ptr(),
+            marks.len(),
+            side,
+            points.as_mut_ptr(),
+            points.len(),
+        )
+    }
+}
+
+/// The same call, for the matrix's entry at a place from 0 to 8, row after
+/// row: 0 where it is refused, a NaN past 8.
+pub fn normalize_matrix(marks: &[f64], side: u32, points: &mut [f64], place: u32) -> f64 {
+    // SAFETY: as above.
+    unsafe {
+        c::probe_normalize_matrix(
+            marks.as_ptr(),
+            marks.len(),
+            side,
+            points.as_mut_ptr(),
+            points.len(),
+            place,
+        )
+    }
+}
+
+/// 0 no, 1 yes, or the refusal 5 or 6.
+pub fn points_are_collinear(marks: &[f64], side: u32) -> u32 {
+    // SAFETY: the pointer and length are those of a slice, which is only read.
+    unsafe { c::probe_points_are_collinear(marks.as_ptr(), marks.len(), side) }
+}
+
+/// 0, or the refusal; the rows, nine numbers each, go to the lent list.
+pub fn dlt_rows(marks: &[f64], rows: &mut [f64]) -> u32 {
+    // SAFETY: as for normalising.
+    unsafe { c::probe_dlt_rows(marks.as_ptr(), marks.len(), rows.as_mut_ptr(), rows.len()) }
+}
+
+/// 0, 1 for the model or 6 for the mark.
+pub fn distance_refusal(h: &[f64; 9], &[x, y, u, v]: &[f64; 4]) -> u32 {
+    c::probe_distance_refusal(
+        h[0], h[1], h[2], h[3], h[4], h[5], h[6], h[7], h[8], x, y, u, v,
+    )
+}
+
+/// The distance; a NaN where it is refused.
+pub fn distance(h: &[f64; 9], &[x, y, u, v]: &[f64; 4]) -> f64 {
+    c::probe_distance(
+        h[0], h[1], h[2], h[3], h[4], h[5], h[6], h[7], h[8], x, y, u, v,
+    )
+}
+
+/// The distance of any numbers: nothing is refused.
+pub fn residual(h: &[f64; 9], &[x, y, u, v]: &[f64; 4]) -> f64 {
+    c::probe_residual(
+        h[0], h[1], h[2], h[3], h[4], h[5], h[6], h[7], h[8], x, y, u, v,
+    )
+}
+
+/// s at place 0, where the model has the point at 1 and 2, a NaN past 2.
+pub fn projection(h: &[f64; 9], &[x, y]: &[f64; 2], place: u32) -> f64 {
+    c::probe_projection(
+        h[0], h[1], h[2], h[3], h[4], h[5], h[6], h[7], h[8], x, y, place,
+    )
 }
