@@ -1,8 +1,8 @@
 // The cases of document 01, 'Sheets to try' and 'Refusals', that the entries so far reach, and some
 // traps beside them: each with what it answers, doubles as 16 hexadecimal digits. The file `stdout`
 // has the answers that 01 gives.
-use homography::Collinear;
 use libc::STDOUT_FILENO;
+use line::Collinear;
 use numbers::Quadratic;
 use root::Rooted;
 use sheet::Mark;
@@ -130,7 +130,7 @@ fn show_collinear(name: &[u8], marks: [f64; 16], n: usize, side: Side)
     requires { ⌜ n ≤ 16 ⌝ }
 {
     print(name);
-    let answer = homography::points_are_collinear(&marks[..n], side);
+    let answer = line::points_are_collinear(&marks[..n], side);
     match answer {
         Collinear::Yes => print(b" yes"),
         Collinear::No => print(b" no"),

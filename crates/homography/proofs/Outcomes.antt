@@ -1,4 +1,4 @@
--- Each way out of the entries, by the tests on the way. Assumes nothing.
+-- Each way out of the entry, by the tests on the way. Assumes nothing.
 use mathlib.Core.Path.{_≡_, refl, sym, ap, _∙_}
 use mathlib.Core.Bool.{Bool, true, false}
 use mathlib.Core.List.{List, [], _∷_}
@@ -8,31 +8,17 @@ use borrow.Author.Tests.{lt-ltb, le-ltb}
 use lib.ListN.{length}
 use lib.Ieee.{Float}
 use Rattle.rule.specs.Refusal.{FEW, ROOM, SPREAD, SHEET-LINE, PIXEL-LINE}
-use Rattle.rule.specs.Answer.{refused, gives}
 use Rattle.rule.specs.Order.{Test, firstFailed, room}
 use Rattle.rule.proofs.Tests.{or-true}
-use Rattle.rule.proofs.Order.{stops, passes, too-small, large-enough, decided-none, decided-some, done, kept}
+use Rattle.rule.proofs.Order.{stops, passes, too-small, large-enough, done, kept}
 use Rattle.sheet.specs.Marks.{marksOf, points, few, marksTests}
 use Rattle.sheet.specs.declared.marks.Side.{Side}
 use Rattle.sheet.specs.declared.marks.Side.the-variants.{Sheet, Pixel}
 use Rattle.sheet.proofs.Refused.{marks-failed, marks-passed}
 use Rattle.linalg.specs.Normalize.{noSpread, changeOf}
 use Rattle.linalg.specs.declared.Change.{Change}
-use Rattle.homography.specs.Collinear.{collinear, collinearAnswer}
 use Rattle.homography.specs.Rows.{rowsList, sheetLine, pixelLine, spreads, rowsTests, Rowing}
-
--- ---- collinear
-
-module _ (l : List Float) (side : Side) {k : ℕ} (first : k ≡ firstFailed (marksTests l)) where
-  pub line-refused : (k ≡ 0 → ⊥) → refused k ≡ collinearAnswer l side
-  unfolding collinearAnswer
-  line-refused h = rw (← first) (decided-some k _ h)
-
-  pub line-told : {b r : Bool} → k ≡ 0 → r ≡ collinear (points side l) → r ≡ b → gives b ≡ collinearAnswer l side
-  unfolding collinearAnswer
-  line-told h e g = rw (← g, e) (decided-none _ (sym h ∙ first))
-
--- ---- the rows
+use Rattle.line.specs.Collinear.{collinear}
 
 flat-is : {c : Change} (side : Side) (l : List Float) → c ≡ changeOf (points side l) → c .flat ≡ noSpread (points side l)
 unfolding changeOf

@@ -16,7 +16,7 @@ use Rattle.sheet.specs.declared.marks.Point.{Point}
 use Rattle.sheet.specs.declared.marks.Side.the-variants.{Sheet, Pixel}
 use Rattle.linalg.specs.Normalize.{noSpread, changeOf, normalizedBy}
 use Rattle.linalg.specs.declared.Change.{Change}
-use Rattle.homography.specs.Collinear.{collinear}
+use Rattle.line.specs.Collinear.{collinear}
 
 -- −x, −y, −1, 0, 0, 0, u·x, u·y, u
 unfoldable pub uRow : Point → Float → List Float

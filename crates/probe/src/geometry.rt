@@ -2,7 +2,7 @@
 // model and a mark as plain numbers.
 use crate::none;
 use crate::place_of_two;
-use homography::Collinear;
+use line::Collinear;
 use sheet::Mark;
 use sheet::Measured;
 use sheet::Model;
@@ -14,7 +14,7 @@ ghost use Rattle.rule.specs.Order.{firstFailed, ifPassed};
 ghost use Rattle.sheet.specs.Marks.{points as pointsOf};
 ghost use Rattle.sheet.specs.Distance.{projectionOf, distanceOf, distanceAnswer};
 ghost use Rattle.linalg.specs.Normalize.{changeOf, matrixOf, noMatrix, normalizeTests, normalizedList};
-ghost use Rattle.homography.specs.Collinear.{collinearAnswer};
+ghost use Rattle.line.specs.Collinear.{collinearAnswer};
 ghost use Rattle.homography.specs.Rows.{Rowing};
 ghost use Rattle.probe.specs.Flat.{refusalOf, valueOf, toldOf, sideOf, partOf, entryOf};
 ghost use Rattle.probe.specs.Plain.{modelOf, markOf, pointOf, Written, MatrixEntry};
@@ -59,7 +59,7 @@ pub extern "C" fn probe_normalize_matrix(
 pub extern "C" fn probe_points_are_collinear(marks: &[f64], side: u32) -> u32
     ensures { λ r. ⌜ r ≡ toldOf (collinearAnswer (now (marks .entry)) (sideOf side)) ⌝ }
 {
-    let answer = homography::points_are_collinear(marks, side_of(side));
+    let answer = line::points_are_collinear(marks, side_of(side));
     match answer {
         Collinear::Yes => 1,
         Collinear::No => 0,

@@ -2,9 +2,9 @@
 // no Rust at hand. harness/oracle/src/sheets.rs makes the list, data/sheets.bin, and has its
 // layout: records of 128 little-endian words, of which the first is the kind. For each kind it
 // prints how many answers agree, bit for bit, and how many there are.
-use homography::Collinear;
 use libc::STDOUT_FILENO;
 use linalg::Row;
+use line::Collinear;
 use sheet::Mark;
 use sheet::Measured;
 use sheet::Model;
@@ -141,7 +141,7 @@ fn collinear_agrees(bytes: &[u8; 1024]) -> bool {
     let refusal = word(bytes, 4);
     let all = input(bytes);
     let n = len as usize;
-    let answer = homography::points_are_collinear(&all[..n], side(bytes));
+    let answer = line::points_are_collinear(&all[..n], side(bytes));
     match answer {
         Collinear::Yes => refusal == 0 && word(bytes, 116) == 1,
         Collinear::No => refusal == 0 && word(bytes, 116) == 0,

@@ -3,7 +3,7 @@ use mathlib.Core.Path.{_≡_, ap, _∙_}
 use borrow.Author.Needs.{needs}
 use denote.Ref.{now}
 use Rattle.rule.proofs.Views.{by-case}
-use Rattle.homography.specs.Collinear.{collinearAnswer, viewCollinear}
+use Rattle.line.specs.Collinear.{collinearAnswer, viewCollinear}
 use Rattle.probe.specs.Flat.{toldOf, sideOf}
 use Rattle.probe.proofs.geometry.probe_points_are_collinear.Statement.{statement}
 use Rattle.probe.proofs.geometry.probe_points_are_collinear.Tie as tie

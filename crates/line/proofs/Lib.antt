@@ -1,0 +1,4 @@
+pub mod Near
+pub mod Baseline
+pub mod Outcomes
+pub mod View

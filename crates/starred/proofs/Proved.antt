@@ -1,0 +1,28 @@
+-- The starred cases of document 01, each by computing its definitions. Assumes nothing.
+use mathlib.Core.Path.{refl}
+use lib.Count.{leadingZeros}
+use lib.Ieee.{round, ofBits, toBits, neg, add, sub, mul, div, lt, eq, le}
+use Rattle.rule.specs.Lists.{countOf}
+use Rattle.root.specs.Digits.{wholeRoot}
+use Rattle.root.specs.Root.{significand, exponent, shiftOf, shift, scaled, height, rootBits, hasRoot, rootOf, rootAnswer}
+use Rattle.numbers.specs.Finite.{absOf, isFinite, within}
+use Rattle.numbers.specs.Quadratic.{counts0, linear, discriminant, ascending, curved, rootsOf, quadraticAnswer}
+use Rattle.sheet.specs.Marks.{pointOf, squaredApart}
+use Rattle.sheet.specs.Distance.{projectionOf, distanceOf, inlier}
+use Rattle.starred.specs.Starred.{Starred}
+
+pub starred : Starred
+unfolding round ofBits toBits neg add sub mul div lt le leadingZeros wholeRoot significand exponent shiftOf shift scaled height rootBits hasRoot rootOf rootAnswer absOf isFinite within counts0 linear discriminant ascending curved rootsOf quadraticAnswer countOf pointOf squaredApart projectionOf distanceOf inlier eq
+starred =
+    record {
+      under-I = refl;
+      under-T = refl;
+      I-within-2 = refl;
+      I-within-3 = refl;
+      T-within-2 = refl;
+      none-behind = refl;
+      root-of-4 = refl;
+      root-of-the-least = refl;
+      two-roots = refl;
+      one-root = refl;
+    }
