@@ -3,7 +3,6 @@
 // mark by mark.
 use linalg::Change;
 use line::on_one_line;
-use sheet::Mark;
 use sheet::Point;
 use sheet::Side;
 ghost use mathlib.Core.Path.{_≡_};
@@ -12,7 +11,7 @@ ghost use Prim.Native.Nat.{_+_, _*_, _≤_};
 ghost use lib.ListN.{length};
 ghost use Rattle.rule.specs.Lists.{replaced};
 ghost use Rattle.sheet.specs.Marks.{marksOf};
-ghost use Rattle.homography.specs.Rows.{uRow, vRow, markRows, rowsList, Rowing};
+ghost use Rattle.homography.specs.Rows.{uRow, vRow, rowsList, Rowing};
 
 // The row of a mark's u: −x, −y, −1, 0, 0, 0, u·x, u·y, u.
 fn write_u_row(part: &mut [f64], p: Point, u: f64)

@@ -1,7 +1,7 @@
 -- Document 01, 'Normalising', of the points of one side: centroid, mean distance, scale, and the matrix of the change.
 use mathlib.Core.Path.{_≡_}
 use mathlib.Core.Bool.{Bool, _||_}
-use mathlib.Core.List.{List, [], _∷_, _++_, map}
+use mathlib.Core.List.{List, [], _∷_, _++_}
 use Prim.Native.Nat.{ℕ, _*_}
 use lib.Dec.{eqb}
 use lib.IntN.{pos}

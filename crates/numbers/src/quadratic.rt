@@ -3,9 +3,8 @@
 use crate::finite::abs;
 use crate::finite::within;
 ghost use mathlib.Core.Path.{_≡_};
-ghost use mathlib.Core.Bool.{not, true};
 ghost use Rattle.rule.specs.Answer.{gives};
-ghost use Rattle.numbers.specs.Quadratic.{counts0, linear, ascending, curved, discriminant, rootsOf, quadraticAnswer, viewQuadratic};
+ghost use Rattle.numbers.specs.Quadratic.{counts0, linear, ascending, curved, quadraticAnswer, viewQuadratic};
 
 // What `solve_quadratic_real` answers: no root, one, two ascending, or the number of the refusal.
 pub enum Quadratic {

@@ -9,14 +9,10 @@ use sheet::Model;
 use sheet::Point;
 use sheet::Side;
 ghost use mathlib.Core.Path.{_≡_};
-ghost use lib.ListN.{length};
-ghost use Rattle.rule.specs.Order.{firstFailed, ifPassed};
-ghost use Rattle.sheet.specs.Marks.{points as pointsOf};
 ghost use Rattle.sheet.specs.Distance.{projectionOf, distanceOf, distanceAnswer};
-ghost use Rattle.linalg.specs.Normalize.{changeOf, matrixOf, noMatrix, normalizeTests, normalizedList};
 ghost use Rattle.line.specs.Collinear.{collinearAnswer};
 ghost use Rattle.homography.specs.Rows.{Rowing};
-ghost use Rattle.probe.specs.Flat.{refusalOf, valueOf, toldOf, sideOf, partOf, entryOf};
+ghost use Rattle.probe.specs.Flat.{refusalOf, valueOf, toldOf, sideOf, partOf};
 ghost use Rattle.probe.specs.Plain.{modelOf, markOf, pointOf, Written, MatrixEntry};
 
 fn side_of(side: u32) -> Side

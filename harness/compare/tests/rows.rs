@@ -7,9 +7,9 @@ use oracle::sheet_cases::{
     HYPOT_NO, HYPOT_YES, SQUARE, long_traps, mark_traps, marks, pair, refused_traps, room,
 };
 
-/// Every number that the rows may answer but 12: points that are not on a line
-/// have spread, since a cross product above 1e-6 needs one of them more than
-/// 1e-4 from the first.
+/// Every number that the rows may answer but 12, which has not come up: a cross
+/// product above 1e-6 needs a point more than 1e-4 from the first, and points
+/// with one so far should have spread.
 const ANSWERS: [u32; 7] = [0, 5, 6, 7, 9, 13, 14];
 
 /// What isn't compared: no number of the rows.

@@ -1,6 +1,5 @@
 -- `linalg::write_pair` meets its contract. Assumes nothing.
 use borrow.Author.Needs.{needs}
-use lib.Seq.{sets}
 use Rattle.rule.proofs.Lists.{all-set}
 use Rattle.linalg.specs.Normalize.{pairOf}
 use Rattle.linalg.proofs.write_pair.Statement.{statement}
@@ -16,7 +15,7 @@ same-length : tie.Need-same-length
 same-length c = search needs
 
 returns : tie.Need-returns
-unfolding pairOf sets
+unfolding pairOf
 returns c = all-set (pairOf (c .args .p)) (c .args .part .now) (c .pre)
 
 pub write-pair-spec : {M : Type 1} → statement M
