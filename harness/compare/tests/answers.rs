@@ -1,41 +1,35 @@
 //! The checked-in answers are those of the oracle today.
 
+use oracle::{answers, records, sheets};
 use std::collections::BTreeSet;
 use std::path::Path;
 
-/// A file below crates/, or a word on which program writes it.
-fn read(path: &str, program: &str) -> Vec<u8> {
+/// The file below crates/ has these records, so many of them.
+fn is_todays<const N: usize>(path: &str, today: Vec<[u64; N]>, count: usize) {
     let crates = Path::new(env!("CARGO_MANIFEST_DIR")).join("../../crates");
-    std::fs::read(crates.join(path)).unwrap_or_else(|e| {
-        panic!("{e}: run `cargo run --release --offline --bin {program}` in harness/ first")
-    })
+    let bytes = std::fs::read(crates.join(path)).expect("a file that harness/README.md makes");
+    assert_eq!(today.len(), count);
+    assert!(
+        bytes == records::bytes(today),
+        "{path} differs from the oracle"
+    );
 }
 
 #[test]
 fn the_numbers_file_is_todays() {
-    let bytes = read("replay/data/answers.bin", "answers");
-    assert!(
-        bytes == oracle::answers::bytes(),
-        "answers.bin differs from the oracle"
-    );
-    assert_eq!(bytes.len(), 96 * 1050);
+    is_todays(answers::FILE, answers::records(), 1050);
 }
 
 #[test]
 fn the_sheet_file_is_todays() {
-    let bytes = read("replay_sheet/data/sheets.bin", "sheets");
-    assert!(
-        bytes == oracle::sheets::bytes(),
-        "sheets.bin differs from the oracle"
-    );
-    assert_eq!(bytes.len(), 1024 * 260);
+    is_todays(sheets::FILE, sheets::records(), 260);
 }
 
 /// Each kind shows all its refusals that an input of at most 20 numbers can.
 #[test]
 fn the_sheet_file_shows_every_refusal() {
     let mut shown = BTreeSet::new();
-    for record in oracle::sheets::records() {
+    for record in sheets::records() {
         shown.insert((record[0], record[4]));
     }
     let expected = [

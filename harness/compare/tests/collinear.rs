@@ -3,9 +3,7 @@
 use compare::{cases, is_long};
 use oracle::cases::Random;
 use oracle::entries::{self, closeness_differs, collinear_by_the_paper, side_of};
-use oracle::sheet_cases::{
-    HYPOT_NO, HYPOT_YES, both, long_traps, mark_traps, marks, refused_traps,
-};
+use oracle::sheet_cases::{HYPOT_NO, HYPOT_YES, all_traps, both, marks};
 
 #[derive(Debug, Default)]
 struct Tally {
@@ -51,10 +49,7 @@ fn compare(marks: &[f64], side: u32, tally: &mut Tally) {
 #[test]
 fn traps() {
     let mut tally = Tally::default();
-    let mut lists = mark_traps();
-    lists.extend(refused_traps().into_iter().map(|(marks, _)| marks));
-    lists.extend(long_traps());
-    for marks in lists {
+    for marks in all_traps() {
         for side in [0, 1, 2, u32::MAX] {
             compare(&marks, side, &mut tally);
         }

@@ -3,7 +3,7 @@
 use compare::{Tally, cases, is_long, junk, same, same_lists};
 use oracle::cases::Random;
 use oracle::entries;
-use oracle::sheet_cases::{long_traps, mark_traps, marks, refused_traps, room};
+use oracle::sheet_cases::{all_traps, marks, room};
 
 /// Every number that normalising may answer.
 const ANSWERS: [u32; 5] = [0, 5, 6, 9, 12];
@@ -50,10 +50,7 @@ fn compare(marks: &[f64], side: u32, room: usize, places: &[u32]) -> u32 {
 fn traps() {
     let random = &mut Random::new(11);
     let mut tally = Tally::default();
-    let mut lists = mark_traps();
-    lists.extend(refused_traps().into_iter().map(|(marks, _)| marks));
-    lists.extend(long_traps());
-    for marks in lists {
+    for marks in all_traps() {
         let need = marks.len() / 2;
         for room in [need, need.saturating_sub(1), need + 1, need + 9, 0] {
             for side in [0, 1, 2, u32::MAX] {

@@ -3,9 +3,7 @@
 use compare::{Tally, cases, is_long, junk, same_lists};
 use oracle::cases::Random;
 use oracle::entries::{self, closeness_differs};
-use oracle::sheet_cases::{
-    HYPOT_NO, HYPOT_YES, SQUARE, long_traps, mark_traps, marks, pair, refused_traps, room,
-};
+use oracle::sheet_cases::{HYPOT_NO, HYPOT_YES, SQUARE, all_traps, marks, pair, room};
 
 /// Every number that the rows may answer but 12, which has not come up: a cross
 /// product above 1e-6 needs a point more than 1e-4 from the first, and points
@@ -40,10 +38,7 @@ fn compare(marks: &[f64], room: usize) -> u32 {
 #[test]
 fn traps() {
     let mut tally = Tally::default();
-    let mut lists = mark_traps();
-    lists.extend(refused_traps().into_iter().map(|(marks, _)| marks));
-    lists.extend(long_traps());
-    for marks in lists {
+    for marks in all_traps() {
         let need = marks.len() / 4 * 18;
         for room in [need, need.saturating_sub(1), need + 1, need + 19, 0] {
             tally.add(compare(&marks, room));

@@ -13,9 +13,13 @@
 //! Floats are bit patterns, every NaN 7ff8000000000000; what is left is zero.
 
 use crate::cases::{self, Coefficients, Random, Rank};
+use crate::records::{bits, put};
 use crate::{dlt_rank_ok, ensure_finite, quadratic, root};
 
 pub type Record = [u64; 12];
+
+/// The file, below crates/.
+pub const FILE: &str = "replay/data/answers.bin";
 
 const ROOTS: usize = 400;
 const QUADRATICS: usize = 400;
@@ -49,23 +53,6 @@ pub fn records() -> Vec<Record> {
     finites.resize_with(FINITES, || cases::finite(random, 6));
     list.extend(finites.iter().map(|values| of_finite(values)));
     list
-}
-
-/// The file's bytes.
-pub fn bytes() -> Vec<u8> {
-    records()
-        .into_iter()
-        .flatten()
-        .flat_map(u64::to_le_bytes)
-        .collect()
-}
-
-fn bits(x: f64) -> u64 {
-    if x.is_nan() {
-        0x7ff8_0000_0000_0000
-    } else {
-        x.to_bits()
-    }
 }
 
 fn of_root(a: f64) -> Record {
@@ -117,9 +104,7 @@ fn of_finite(values: &[f64]) -> Record {
 
 fn put_values(record: &mut Record, values: &[f64]) {
     record[4] = values.len() as u64;
-    for (place, &v) in values.iter().enumerate() {
-        record[5 + place] = bits(v);
-    }
+    put(record, 5, values);
 }
 
 /// One record as a line to read.

@@ -8,6 +8,7 @@ pub mod cases;
 pub mod entries;
 mod numbers;
 mod pick;
+pub mod records;
 mod sheet;
 pub mod sheet_cases;
 pub mod sheets;

@@ -166,6 +166,12 @@ pub fn long_traps() -> Vec<Vec<f64>> {
     ]
 }
 
+/// All of these: usual, at a limit, refused and long.
+pub fn all_traps() -> Vec<Vec<f64>> {
+    let refused = refused_traps().into_iter().map(|(marks, _)| marks);
+    [mark_traps(), refused.collect(), long_traps()].concat()
+}
+
 /// The i-th random list: few marks, and every 256th time up to 2,000.
 pub fn marks(random: &mut Random, i: usize) -> Vec<f64> {
     let n = match i % 256 {

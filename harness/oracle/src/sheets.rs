@@ -21,12 +21,16 @@
 
 use crate::cases::Random;
 use crate::entries;
+use crate::records::{bits, put};
 use crate::sheet_cases::{
     self, SQUARE, both, distance_traps, line_traps, refused_traps, spread_traps, usual_traps,
 };
 use crate::{Mark, Model};
 
 pub type Record = [u64; 128];
+
+/// The file, below crates/.
+pub const FILE: &str = "replay_sheet/data/sheets.bin";
 
 /// How many records of each kind, but for the lists whose sides differ.
 const EACH: usize = 50;
@@ -47,15 +51,6 @@ pub fn records() -> Vec<Record> {
     list.extend(rows(random));
     list.extend(distances(random));
     list
-}
-
-/// The file's bytes.
-pub fn bytes() -> Vec<u8> {
-    records()
-        .into_iter()
-        .flatten()
-        .flat_map(u64::to_le_bytes)
-        .collect()
 }
 
 /// These trap lists between the usual and the refused ones.
@@ -187,21 +182,6 @@ fn distances(random: &mut Random) -> Vec<Record> {
         list.push(sheet_cases::distance(random, i));
     }
     list.iter().map(|(h, mark)| of_distance(h, mark)).collect()
-}
-
-fn bits(x: f64) -> u64 {
-    if x.is_nan() {
-        0x7ff8_0000_0000_0000
-    } else {
-        x.to_bits()
-    }
-}
-
-/// Writes floats from a word on.
-fn put(record: &mut Record, from: usize, numbers: &[f64]) {
-    for (place, &x) in numbers.iter().enumerate() {
-        record[from + place] = bits(x);
-    }
 }
 
 /// A record up to its input.

@@ -42,70 +42,34 @@ mod c {
             rows: *mut f64,
             room: usize,
         ) -> u32;
-        #[rustfmt::skip]
-        pub safe fn probe_distance_refusal(
-            h0: f64,
-            h1: f64,
-            h2: f64,
-            h3: f64,
-            h4: f64,
-            h5: f64,
-            h6: f64,
-            h7: f64,
-            h8: f64,
-            x: f64,
-            y: f64,
-            u: f64,
-            v: f64,
-        ) -> u32;
-        #[rustfmt::skip]
-        pub safe fn probe_distance(
-            h0: f64,
-            h1: f64,
-            h2: f64,
-            h3: f64,
-            h4: f64,
-            h5: f64,
-            h6: f64,
-            h7: f64,
-            h8: f64,
-            x: f64,
-            y: f64,
-            u: f64,
-            v: f64,
-        ) -> f64;
-        #[rustfmt::skip]
-        pub safe fn probe_residual(
-            h0: f64,
-            h1: f64,
-            h2: f64,
-            h3: f64,
-            h4: f64,
-            h5: f64,
-            h6: f64,
-            h7: f64,
-            h8: f64,
-            x: f64,
-            y: f64,
-            u: f64,
-            v: f64,
-        ) -> f64;
-        #[rustfmt::skip]
-        pub safe fn probe_projection(
-            h0: f64,
-            h1: f64,
-            h2: f64,
-            h3: f64,
-            h4: f64,
-            h5: f64,
-            h6: f64,
-            h7: f64,
-            h8: f64,
-            x: f64,
-            y: f64,
-            place: u32,
-        ) -> f64;
     }
+
+    /// Functions of a model, a point and something more.
+    macro_rules! of_a_model {
+        ($($name:ident($($more:ident: $kind:ty),+) -> $answer:ty;)+) => {
+            unsafe extern "C" {
+                $(pub safe fn $name(
+                    h0: f64, h1: f64, h2: f64, h3: f64, h4: f64, h5: f64, h6: f64, h7: f64,
+                    h8: f64, x: f64, y: f64, $($more: $kind),+
+                ) -> $answer;)+
+            }
+        };
+    }
+    of_a_model! {
+        probe_distance_refusal(u: f64, v: f64) -> u32;
+        probe_distance(u: f64, v: f64) -> f64;
+        probe_residual(u: f64, v: f64) -> f64;
+        probe_projection(place: u32) -> f64;
+    }
+}
+
+/// A call of one of them.
+macro_rules! with_model {
+    ($name:ident, $h:ident, $($more:ident),+) => {
+        c::$name(
+            $h[0], $h[1], $h[2], $h[3], $h[4], $h[5], $h[6], $h[7], $h[8], $($more),+
+        )
+    };
 }
 
 /// The root; a NaN where there is none.
@@ -199,28 +163,20 @@ pub fn dlt_rows(marks: &[f64], rows: &mut [f64]) -> u32 {
 
 /// 0, 1 for the model or 6 for the mark.
 pub fn distance_refusal(h: &[f64; 9], &[x, y, u, v]: &[f64; 4]) -> u32 {
-    c::probe_distance_refusal(
-        h[0], h[1], h[2], h[3], h[4], h[5], h[6], h[7], h[8], x, y, u, v,
-    )
+    with_model!(probe_distance_refusal, h, x, y, u, v)
 }
 
 /// The distance; a NaN where it is refused.
 pub fn distance(h: &[f64; 9], &[x, y, u, v]: &[f64; 4]) -> f64 {
-    c::probe_distance(
-        h[0], h[1], h[2], h[3], h[4], h[5], h[6], h[7], h[8], x, y, u, v,
-    )
+    with_model!(probe_distance, h, x, y, u, v)
 }
 
 /// The distance of any numbers: nothing is refused.
 pub fn residual(h: &[f64; 9], &[x, y, u, v]: &[f64; 4]) -> f64 {
-    c::probe_residual(
-        h[0], h[1], h[2], h[3], h[4], h[5], h[6], h[7], h[8], x, y, u, v,
-    )
+    with_model!(probe_residual, h, x, y, u, v)
 }
 
 /// s at place 0, where the model has the point at 1 and 2, a NaN past 2.
 pub fn projection(h: &[f64; 9], &[x, y]: &[f64; 2], place: u32) -> f64 {
-    c::probe_projection(
-        h[0], h[1], h[2], h[3], h[4], h[5], h[6], h[7], h[8], x, y, place,
-    )
+    with_model!(probe_projection, h, x, y, place)
 }
