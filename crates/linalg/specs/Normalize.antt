@@ -35,7 +35,8 @@ meanDistance centre ps = mean (λ p. rootOf (squaredApart p centre)) ps
 unfoldable pub noSpread : List Point → Bool
 noSpread ps = eqb (length ps) 0 || le (meanDistance (centroidOf ps) ps) epsilon
 
--- scale = root(2) / mean
+-- The change to normalised coordinates: in the terms of the field, the similarity of Hartley's normalising. scale = root(2) / mean.
+-- `flat` is that there is no spread.
 unfoldable pub changeOf : List Point → Change
 changeOf ps =
     let centre = centroidOf ps in
@@ -53,6 +54,7 @@ matrixOf c =
     ∷ record { cells = zero′ ∷ zero′ ∷ one ∷ [] }
     ∷ []
 
+-- what stands for the matrix on a refusal
 unfoldable pub noMatrix : List Row
 noMatrix =
     record { cells = zero′ ∷ zero′ ∷ zero′ ∷ [] }
