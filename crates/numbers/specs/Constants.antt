@@ -53,6 +53,14 @@ near-is : near ≡ round binary64 false 1 (10 ^ 8)
 unfolding ofBits round
 near-is = refl
 
+-- 0.99, the confidence of options made from a threshold alone
+abbrev pub usualConfidence : Float
+usualConfidence = ofBits binary64 0x3fef_ae14_7ae1_47ae
+
+usualConfidence-is : usualConfidence ≡ round binary64 false 99 100
+unfolding ofBits round
+usualConfidence-is = refl
+
 -- 1e100, the largest magnitude of a coefficient
 abbrev pub most : Float
 most = ofBits binary64 0x54b2_49ad_2594_c37d

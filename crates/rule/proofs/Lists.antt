@@ -1,18 +1,19 @@
 -- What a loop knows at place i of a list that it goes through from the front: what is still owed, from i on; or what is written, up to i.
 -- Assumes nothing.
 use mathlib.Core.Path.{_≡_, refl, sym, ap, ap₂, _∙_}
-use mathlib.Core.Bool.{Bool, true, false}
+use mathlib.Core.Bool.{Bool, true, false, cond}
 use mathlib.Core.List.{List, [], _∷_, _++_, append-assoc, append-nil}
 use Prim.Native.Nat.{ℕ, zero, suc, _+_, _-_, _*_, _≤_, _<_}
-use native.Mathlib.Nat.{zero-add, add-assoc, le-add-right, mul-zero, mul-suc, mul-le-mul-left, le-of-lt, le-of-eq}
+use native.Mathlib.Nat.{zero-add, add-assoc, le-add-right, mul-zero, one-mul, mul-suc, mul-le-mul-left, le-of-lt, le-of-eq}
 use native.Mathlib.Numerals.{add-one}
 use native.Mathlib.Omega.{arith}
-use borrow.Rule.Slice.PartMut.{putMid, post-is}
-use lib.ListN.{length, getD, take, drop, length-append, length-drop, drop-of-length-le}
-use lib.Seq.{drop-cons, take-suc, take-length, take-at, drop-at, drop-drop, length-take-le, sets, sets-eq}
+use borrow.Author.Tests.{lt-ltb, le-ltb}
+use borrow.Rule.Slice.PartMut.{midOf, putMid, post-is, mid-len}
+use lib.ListN.{length, getD, take, drop, set, length-append, length-drop, drop-of-length-le}
+use lib.Seq.{drop-cons, take-suc, take-length, take-at, drop-at, drop-drop, length-take-le, set-split, sets, sets-eq}
 use lib.Ieee.{Float}
 use Rattle.rule.specs.Arith.{_⊕_}
-use Rattle.rule.specs.Lists.{every, sumFrom, forEach, replaced}
+use Rattle.rule.specs.Lists.{every, countOf, those, placesFrom, sumFrom, forEach, replaced, filled}
 
 -- ---- a place past the end
 
@@ -20,6 +21,12 @@ pub past-end : {A : Type 0} (l : List A) (i : ℕ) (d : A) → length l ≤ i �
 past-end [] i d h = refl
 past-end (a ∷ l) zero d h = absurd (omega (arith, h))
 past-end (a ∷ l) (suc i) d h = past-end l i d (omega (arith, h))
+
+-- one of its places reads the same whatever stands for none
+pub place-read : {A : Type 0} (l : List A) (i : ℕ) (d e : A) → i < length l → getD l i d ≡ getD l i e
+place-read [] i d e h = absurd (omega (arith, h))
+place-read (a ∷ l) zero d e h = refl
+place-read (a ∷ l) (suc i) d e h = place-read l i d e (omega (arith, h))
 
 -- ---- a test of every element
 
@@ -47,6 +54,42 @@ module _ {A : Type 0} (term : A → Float) (l : List A) (d : A) where
   unfolding sumFrom
   sum-end sum i h = rw (drop-of-length-le l h)
 
+-- ---- a count, those that pass, and their places
+
+module _ {A : Type 0} (test : A → Bool) (l : List A) (d : A) where
+  pub count-next : (i : ℕ) → i < length l → countOf test (drop i l) ≡ cond (test (getD l i d)) 1 0 + countOf test (drop (i + 1) l)
+  unfolding countOf
+  count-next i h = rw (add-one i, drop-cons l i d h)
+
+  pub count-end : (i : ℕ) → length l ≤ i → countOf test (drop i l) ≡ 0
+  unfolding countOf
+  count-end i h = rw (drop-of-length-le l h)
+
+  pub those-next : (i : ℕ) → i < length l → those test (drop i l) ≡ cond (test (getD l i d)) (getD l i d ∷ those test (drop (i + 1) l)) (those test (drop (i + 1) l))
+  unfolding those
+  those-next i h = rw (add-one i, drop-cons l i d h)
+
+  pub those-end : (i : ℕ) → length l ≤ i → those test (drop i l) ≡ []
+  unfolding those
+  those-end i h = rw (drop-of-length-le l h)
+
+  pub places-next : (k i : ℕ) → i < length l → placesFrom k test (drop i l) ≡ cond (test (getD l i d)) (k ∷ placesFrom (k + 1) test (drop (i + 1) l)) (placesFrom (k + 1) test (drop (i + 1) l))
+  unfolding placesFrom
+  places-next k i h = rw (add-one i, drop-cons l i d h)
+
+  pub places-end : (k i : ℕ) → length l ≤ i → placesFrom k test (drop i l) ≡ []
+  unfolding placesFrom
+  places-end k i h = rw (drop-of-length-le l h)
+
+pub places-count : {A : Type 0} (test : A → Bool) (k : ℕ) (l : List A) → length (placesFrom k test l) ≡ countOf test l
+unfolding placesFrom countOf
+places-count test k [] = refl
+places-count test k (a ∷ l) = go (test a) (places-count test (k + 1) l)
+  where
+    go : (b : Bool) → length (placesFrom (k + 1) test l) ≡ countOf test l → length (cond b (k ∷ placesFrom (k + 1) test l) (placesFrom (k + 1) test l)) ≡ cond b 1 0 + countOf test l
+    go true h = rw h (omega arith)
+    go false h = h ∙ sym (zero-add (countOf test l))
+
 -- ---- a list stored to at each of its places
 
 pub all-set : {A : Type 0} (vs l : List A) → length l ≡ length vs → sets l 0 vs ≡ vs
@@ -59,6 +102,10 @@ all-set vs l h =
 pub part-replaced : {A : Type 0} (at end : ℕ) (xs l : List A) → at + length xs ≡ end → putMid at (end - at) l xs ≡ replaced at xs l
 unfolding replaced
 part-replaced at end xs l h = rw (h, post-is at end l (let g = le-add-right at (length xs) in omega (arith, g, h)))
+
+pub replaced-length : {A : Type 0} (at : ℕ) (xs l : List A) → at + length xs ≤ length l → length (replaced at xs l) ≡ length l
+unfolding replaced
+replaced-length at xs l h = simp (length-append, length-drop) (rw (length-take-le at l (omega arith)) (omega arith))
 
 -- one part after the other is both at once
 module _ {A : Type 0} (at : ℕ) (xs ys l : List A) (inside : at + length xs ≤ length l) where
@@ -142,3 +189,88 @@ module _ {A B : Type 0} (write : A → List B) (w : ℕ) (wide : (a : A) → len
         pub more : {a : A} {t : List B} → a ≡ getD l i d → t ≡ replaced (w * i) (write a) s → Written (i + 1) t
         unfolding replaced
         more {a} e f = record { is = f ∙ rw (wide a, front-is, rest-is, add-one i, next, mul-suc w i, e, append-assoc) }
+
+-- ---- what is written from the front of a lent list, if there is room
+
+module _ {A : Type 0} (xs l : List A) where
+  pub filled-not : length l < length xs → l ≡ filled xs l
+  unfolding filled
+  filled-not h = rw (lt-ltb (length l) (length xs) h)
+
+  pub filled-is : length xs ≤ length l → filled xs l ≡ xs ++ drop (length xs) l
+  unfolding filled
+  filled-is h = rw (le-ltb (length l) (length xs) h)
+
+  pub filled-whole : length l ≡ length xs → filled xs l ≡ xs
+  filled-whole h = filled-is (le-of-eq (sym h)) ∙ rw (drop-of-length-le l (le-of-eq h), append-nil xs)
+
+  -- by a part that is lent, and by stores to the first places
+  pub filled-replaced : length xs ≤ length l → replaced 0 xs l ≡ filled xs l
+  unfolding replaced
+  filled-replaced h = rw (filled-is h, zero-add (length xs))
+
+  pub filled-sets : length xs ≤ length l → sets l 0 xs ≡ filled xs l
+  filled-sets h = sets-eq xs l 0 (rw (zero-add (length xs)) h) ∙ rw (filled-is h, zero-add (length xs))
+
+-- a part that is lent to one that fills it
+pub part-filled : {A : Type 0} (at end : ℕ) (xs l : List A) {part : List A} → at + length xs ≡ end → end ≤ length l → part ≡ filled xs (midOf at (end - at) l)
+    → putMid at (end - at) l part ≡ replaced at xs l
+part-filled at end xs l h inside e =
+    rw (e ∙ filled-whole xs (midOf at (end - at) l) (mid-len at end l inside ∙ (let g : end - at ≡ length xs = omega (arith, h) in g))) (part-replaced at end xs l h)
+
+-- by a loop, w places for each element
+module _ {A B : Type 0} (write : A → List B) (w : ℕ) (wide : (a : A) → length (write a) ≡ w) (l : List A) (entry : List B) {n : ℕ} (count : n ≡ length l) where
+  places : length (forEach write l) ≡ w * n
+  places = forEach-length write w wide l ∙ rw count
+
+  pub no-room : length entry < w * n → entry ≡ filled (forEach write l) entry
+  no-room h = filled-not (forEach write l) entry (rw places h)
+
+  pub all-filled : {i : ℕ} {s : List B} → i ≤ n → n ≤ i → w * n ≤ length entry → Written write w wide l entry i s → s ≡ filled (forEach write l) entry
+  all-filled h g room k =
+      all write w wide l entry count h g k
+      ∙ rw (← forEach-length write w wide l) (sym (filled-is (forEach write l) entry (rw places room)))
+
+-- ---- a list stored element by element: one place for each
+
+pub set-replaced : {A : Type 0} (l : List A) (i : ℕ) (a : A) → i < length l → set l i a ≡ replaced i (a ∷ []) l
+unfolding replaced
+set-replaced l i a h = set-split l i a h ∙ rw (add-one i)
+
+abbrev pub alone : {A : Type 0} → A → List A
+alone a = a ∷ []
+
+pub alone-wide : {A : Type 0} (a : A) → length (alone a) ≡ 1
+alone-wide a = refl
+
+each-alone : {A : Type 0} (l : List A) → forEach alone l ≡ l
+unfolding forEach
+each-alone [] = refl
+each-alone (a ∷ l) = ap (λ t. a ∷ t) (each-alone l)
+
+module _ {A : Type 0} (l entry : List A) where
+  -- the first i elements are stored
+  abbrev pub Stored : ℕ → List A → Type 0
+  Stored i s = Written alone 1 alone-wide l entry i s
+
+  pub stored-none : Stored 0 entry
+  stored-none = none alone 1 alone-wide l entry
+
+  module _ {n : ℕ} (count : n ≡ length l) where
+    pub stored-no-room : length entry < n → entry ≡ filled l entry
+    stored-no-room h = filled-not l entry (rw (← count) h)
+
+    module _ (room : n ≤ length entry) where
+      room-once : 1 * n ≤ length entry
+      room-once = rw (one-mul n) room
+
+      pub stored-same : {i : ℕ} {s : List A} → i ≤ n → Stored i s → length s ≡ length entry
+      stored-same h k = same alone 1 alone-wide l entry count h room-once k
+
+      pub stored-more : (d : A) {i : ℕ} {s : List A} {a : A} → i < n → a ≡ getD l i d → Stored i s → Stored (i + 1) (set s i a)
+      stored-more d {i} {s} {a} h e k =
+          more alone 1 alone-wide l entry count d h k e
+          (rw (one-mul i) (set-replaced s i a (let g = stored-same (le-of-lt h) k in omega (arith, g, h, room))))
+
+      pub stored-all : {i : ℕ} {s : List A} → i ≤ n → n ≤ i → Stored i s → s ≡ filled l entry
+      stored-all h g k = all-filled alone 1 alone-wide l entry count h g room-once k ∙ rw (each-alone l)

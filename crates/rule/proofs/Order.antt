@@ -62,6 +62,15 @@ one-failed (t ∷ ts) us h = go (t .fails) (λ e. one-failed ts us e) h
     go true rest e = refl
     go false rest e = rest e
 
+-- where no test failed, the first one passed
+pub first-passed : (t : Test) (ts : List Test) → T (ltb 0 (t .number)) → firstFailed (t ∷ ts) ≡ 0 → (t .fails ≡ false) × (firstFailed ts ≡ 0)
+unfolding firstFailed
+first-passed t ts p h = go (t .fails) h
+  where
+    go : (b : Bool) → cond b (t .number) (firstFailed ts) ≡ 0 → (b ≡ false) × (firstFailed ts ≡ 0)
+    go true e = above-zero (t .number) p e
+    go false e = (refl, e)
+
 -- ---- what the number decides
 
 pub decided-none : {A : Type 0} {k : ℕ} (a : A) → 0 ≡ k → gives a ≡ decided k a
@@ -81,3 +90,14 @@ pub kept : {A : Type 0} (k : ℕ) (a b : A) → (k ≡ 0 → ⊥) → b ≡ ifPa
 unfolding ifPassed
 kept zero a b h = absurd (h refl)
 kept (suc k) a b h = refl
+
+-- and what the answer says of the number
+pub decided-gives : {A : Type 0} (k : ℕ) {a b : A} → gives b ≡ decided k a → (k ≡ 0) × (b ≡ a)
+unfolding decided
+decided-gives zero h = (refl, cc)
+decided-gives (suc k) h = absurd (let z : _≡_ {A = ℕ} 0 1 = cc in omega (arith, z))
+
+pub decided-refused : {A : Type 0} (k : ℕ) (a : A) {j : ℕ} → refused j ≡ decided k a → (j ≡ k) × (k ≡ 0 → ⊥)
+unfolding decided
+decided-refused zero a h = absurd (let z : _≡_ {A = ℕ} 0 1 = cc in omega (arith, z))
+decided-refused (suc k) a h = (cc, λ e. absurd (omega (arith, e)))

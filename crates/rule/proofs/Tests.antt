@@ -31,6 +31,10 @@ pub either : (a b : Bool) → T (a || b) → T a ⊎ T b
 either true b t = inl tt
 either false b t = inr t
 
+pub neither : (a b : Bool) → (a || b) ≡ false → (a ≡ false) × (b ≡ false)
+neither true b h = absurd (true≢false h)
+neither false b h = (refl, h)
+
 pub is-test : (b : Bool) → b ≡ true → T b
 is-test true h = tt
 is-test false h = absurd (true≢false (sym h))

@@ -1,0 +1,6 @@
+pub mod Clear
+pub mod ClearOrder
+pub mod Winners
+pub mod Along
+pub mod Picked
+pub mod Runs

@@ -1,0 +1,110 @@
+-- Document 01, 'Picking rule': the book. It is fed judged calls and keeps four counts, a bound and a winner. It knows nothing of a program's state.
+use mathlib.Core.Bool.{Bool, true, cond, _&&_, _||_}
+use mathlib.Core.List.{List, [], _∷_}
+use Prim.Native.Nat.{ℕ, suc}
+use lib.Dec.{leb, ltb, eqb}
+use lib.Ieee.{Float, lt}
+use Rattle.rule.specs.Refusal.{ENDED}
+use Rattle.book.specs.Score.{Options, Standing, Judged, turned-down, empty, few, scored}
+
+-- The winner: the standing model, its own count and rms, and the trial's number from 1. (In the terms of the field, the best hypothesis so far.)
+pub record Winner (M : Type 0) : Type 0 where
+  pub model : M
+  pub count : ℕ
+  pub rms : Float
+  pub number : ℕ
+
+pub data Held (M : Type 0) : Type 0 where
+  none : Held M
+  held : Winner M → Held M
+
+pub record Book (M : Type 0) : Type 0 where
+  pub read : ℕ
+  pub empties : ℕ
+  pub fews : ℕ
+  pub scores : ℕ
+  pub bound : ℕ
+  pub winner : Held M
+
+-- A trial's answer without its state: 01's empty, few, held and won, or a refusal's number.
+pub data Outcome : Type 0 where
+  is-refused : ℕ → Outcome
+  is-empty : Outcome
+  is-few : (count : ℕ) → Outcome
+  is-held : (count : ℕ) (rms : Float) → Outcome
+  is-won : (count : ℕ) (rms : Float) → Outcome
+
+-- the book after a call, and the book's answer to it
+pub record Entered (M : Type 0) : Type 0 where
+  pub book : Book M
+  pub answer : Outcome
+
+-- The bound: raised to the trials read, then lowered to max_iters
+unfoldable pub raised : ℕ → ℕ → ℕ
+raised least k = cond (ltb k least) least k
+
+unfoldable pub lowered : ℕ → ℕ → ℕ
+lowered most k = cond (ltb most k) most k
+
+module _ {M : Type 0} where
+  -- It wins if nothing won before, its count is higher, or the count is equal and rms less.
+  unfoldable pub beats : Standing M → Held M → Bool
+  beats s none = true
+  beats s (held w) = ltb (w .count) (s .count) || (eqb (s .count) (w .count) && lt (s .rms) (w .rms))
+
+  -- the winner after the scored trial of a number
+  unfoldable pub winnerAfter : Standing M → ℕ → Held M → Held M
+  winnerAfter s number before =
+      cond (beats s before) (held (record { model = s .model; count = s .count; rms = s .rms; number = number })) before
+
+  unfoldable pub scoredAnswer : Standing M → Held M → Outcome
+  scoredAnswer s before = cond (beats s before) (is-won (s .count) (s .rms)) (is-held (s .count) (s .rms))
+
+  -- a judged call that comes before the end
+  unfoldable pub entered : Options → Book M → Judged M → Entered M
+  entered o b (turned-down k) = record { book = b; answer = is-refused k }
+  entered o b empty =
+      record {
+        book = record { read = suc (b .read); empties = suc (b .empties); fews = b .fews; scores = b .scores; bound = b .bound; winner = b .winner };
+        answer = is-empty;
+      }
+  entered o b (few count) =
+      record {
+        book = record { read = suc (b .read); empties = b .empties; fews = suc (b .fews); scores = b .scores; bound = b .bound; winner = b .winner };
+        answer = is-few count;
+      }
+  entered o b (scored s) =
+      record {
+        book =
+            record {
+              read = suc (b .read);
+              empties = b .empties;
+              fews = b .fews;
+              scores = suc (b .scores);
+              bound = lowered (o .most) (raised (suc (b .read)) (s .stop));
+              winner = winnerAfter s (suc (b .read)) (b .winner);
+            };
+        answer = scoredAnswer s (b .winner);
+      }
+
+  -- The run has ended when trials read ≥ bound.
+  unfoldable pub hasEnded : Book M → Bool
+  hasEnded b = leb (b .bound) (b .read)
+
+  -- one call: 10 after the end, which leaves the book
+  unfoldable pub called : Options → Book M → Judged M → Entered M
+  called o b j = cond (hasEnded b) (record { book = b; answer = is-refused ENDED }) (entered o b j)
+
+  -- counts 0, bound max_iters, no winner
+  unfoldable pub fresh : Options → Book M
+  fresh o = record { read = 0; empties = 0; fews = 0; scores = 0; bound = o .most; winner = none }
+
+  -- ---- a list of calls
+
+  unfoldable pub bookAfter : Options → Book M → List (Judged M) → Book M
+  bookAfter o b [] = b
+  bookAfter o b (j ∷ js) = bookAfter o (called o b j .book) js
+
+  unfoldable pub answersOf : Options → Book M → List (Judged M) → List Outcome
+  answersOf o b [] = []
+  answersOf o b (j ∷ js) = called o b j .answer ∷ answersOf o (called o b j .book) js

@@ -1,0 +1,4 @@
+pub mod Score
+pub mod Book
+pub mod Calls
+pub mod Rule

@@ -1,0 +1,12 @@
+use Rattle.pick.proofs.Answers.{nothing-read}
+use Rattle.pick.proofs.opening.fresh_run.Statement.{statement}
+use Rattle.pick.proofs.opening.fresh_run.Tie as tie
+use Rattle.pick.proofs.opening.fresh_run.Reads as reads
+use Rattle.pick.proofs.opening.fresh_run.Lts as lts
+
+-- src/opening.rt:17:1
+returns : tie.Need-returns
+returns c = nothing-read _ _
+
+pub fresh-run-spec : {M : Type 1} → statement M
+fresh-run-spec = tie.close (tie.spec returns)

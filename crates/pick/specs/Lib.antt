@@ -1,0 +1,4 @@
+pub mod Run
+pub mod Opening
+pub mod Trial
+pub mod Indices

@@ -1,0 +1,4 @@
+pub mod Reading
+pub mod Formed
+pub mod View
+pub mod Whole
