@@ -2,10 +2,7 @@
 
 /// How many random cases: SALGHEMU_CASES, or the test's own number.
 pub fn cases(usual: usize) -> usize {
-    match std::env::var("SALGHEMU_CASES") {
-        Ok(text) => text.parse().expect("SALGHEMU_CASES is a whole number"),
-        Err(_) => usual,
-    }
+    oracle::cases::asked().unwrap_or(usual)
 }
 
 /// The same bits; all NaNs count as one.

@@ -1,6 +1,12 @@
 //! Inputs to compare on: traps by hand, limits by rule, and random ones from
 //! a fixed seed.
 
+/// How many random cases SALGHEMU_CASES asks for, where it is set.
+pub fn asked() -> Option<usize> {
+    let text = std::env::var("SALGHEMU_CASES").ok()?;
+    Some(text.parse().expect("SALGHEMU_CASES is a whole number"))
+}
+
 /// splitmix64.
 pub struct Random(u64);
 

@@ -4,14 +4,17 @@
 //! that a caller needs nothing of the originals' own types.
 
 pub mod answers;
+pub mod book;
 pub mod cases;
 pub mod entries;
 mod numbers;
 mod pick;
+pub mod pick_cases;
 pub mod records;
 mod sheet;
 pub mod sheet_cases;
 pub mod sheets;
+pub mod whole;
 
 pub use numbers::{
     NUMBER, dlt_rank_ok, ensure_finite, quadratic, root, root_refusal, solve_quadratic_real,
