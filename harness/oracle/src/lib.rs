@@ -7,6 +7,7 @@ pub mod answers;
 pub mod book;
 pub mod cases;
 pub mod entries;
+pub mod example;
 mod numbers;
 mod pick;
 pub mod pick_cases;

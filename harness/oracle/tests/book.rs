@@ -1,0 +1,398 @@
+//! The book on 01's sheets to try, its records, its refusals and their orders.
+
+use oracle::book::{Best, Book, Call, Options, Outcome, State, trial_of_record, trial_record};
+use oracle::example::{self, SQUARE};
+use oracle::whole::{printed, run};
+use oracle::{Model, Trial};
+
+const I: Model = [1.0, 0.0, 0.0, 0.0, 1.0, 0.0, 0.0, 0.0, 1.0];
+const T: Model = [1.0, 0.0, 0.0, 0.0, 1.0, 3.0, 0.0, 0.0, 1.0];
+const BEHIND: Model = [1.0, 0.0, 0.0, 0.0, 1.0, 0.0, 0.0, 0.0, -1.0];
+const STOPS: [u32; 6] = [9, 9, 9, 9, 3, 9];
+
+fn options(thresh: f64, max_iters: u32, min_inliers: u32, refit: bool) -> Options {
+    Options {
+        thresh,
+        confidence: 0.99,
+        max_iters,
+        min_inliers,
+        refit,
+    }
+}
+
+fn open(options: Options) -> State {
+    State::open(options, &SQUARE, &STOPS).expect("an accepted opening")
+}
+
+fn fit(model: Model) -> [u8; 152] {
+    trial_record(&Trial {
+        fit: Some(model),
+        refit: None,
+    })
+}
+
+fn try_one(state: &mut State, record: &[u8]) -> Outcome {
+    state.trial(&Call {
+        record,
+        marks: &SQUARE,
+        stops: &STOPS,
+    })
+}
+
+/// The outcome as numbers: which one, the count or the refusal, the rms.
+fn told(outcome: Outcome) -> (u64, u64, f64) {
+    let [which, count, rms] = outcome.words();
+    (which, count, f64::from_bits(rms))
+}
+
+fn number_of(state: &mut State, record: &[u8]) -> u32 {
+    try_one(state, record).number()
+}
+
+#[test]
+fn one_trial_each() {
+    let cases = [
+        (2.0, 4, I, (4, 4, 0.0)),
+        (3.0, 4, I, (4, 5, 1.8f64.sqrt())),
+        (2.0, 1, T, (4, 1, 0.0)),
+        (2.0, 4, T, (2, 1, 0.0)),
+        (2.0, 1, BEHIND, (2, 0, 0.0)),
+        (2.0, 0, BEHIND, (4, 0, f64::INFINITY)),
+    ];
+    for (thresh, min, model, expected) in cases {
+        let mut state = open(options(thresh, 10, min, false));
+        assert_eq!(told(try_one(&mut state, &fit(model))), expected);
+    }
+}
+
+#[test]
+fn a_refit_stands_if_it_reaches_the_minimum() {
+    let both = trial_record(&Trial {
+        fit: Some(I),
+        refit: Some(T),
+    });
+    for (min, refit, expected, standing) in [
+        (4, true, (4, 4, 0.0), I),
+        (1, true, (4, 1, 0.0), T),
+        (1, false, (4, 4, 0.0), I),
+    ] {
+        let mut state = open(options(2.0, 10, min, refit));
+        assert_eq!(told(try_one(&mut state, &both)), expected);
+        assert_eq!(state.book.winner.expect("a winner").model, standing);
+    }
+    // A refit of count 0 stands over a fit of count 4 where 0 is enough.
+    let mut state = open(options(2.0, 10, 0, true));
+    let none = trial_record(&Trial {
+        fit: Some(I),
+        refit: Some(BEHIND),
+    });
+    assert_eq!(
+        told(try_one(&mut state, &none)),
+        (4, 0, f64::INFINITY),
+        "and the bound is max_iters"
+    );
+    assert_eq!(state.book.bound, 10);
+}
+
+#[test]
+fn the_same_twice_keeps_the_first() {
+    let mut state = open(options(2.0, 10, 4, false));
+    assert_eq!(told(try_one(&mut state, &fit(I))), (4, 4, 0.0));
+    assert_eq!(told(try_one(&mut state, &fit(I))), (3, 4, 0.0));
+    let Best { count, number, .. } = state.book.winner.expect("a winner");
+    assert_eq!((count, number), (4, 1));
+    assert_eq!(state.winner_indices(&SQUARE, 5), Ok(vec![0, 1, 2, 3]));
+}
+
+#[test]
+fn the_bound_falls_and_rises() {
+    let mut state = open(options(2.0, 10, 1, false));
+    try_one(&mut state, &fit(I));
+    assert_eq!(state.book.bound, 3);
+    try_one(&mut state, &fit(T));
+    assert_eq!(state.book.bound, 9);
+    try_one(&mut state, &fit(I));
+    assert_eq!((state.book.read, state.book.bound), (3, 3));
+    assert_eq!(number_of(&mut state, &fit(I)), 10);
+}
+
+#[test]
+fn the_third_trial_at_two_is_refused() {
+    let mut state = open(options(2.0, 2, 4, false));
+    let empty = trial_record(&Trial::default());
+    for expected in [0, 0, 10] {
+        assert_eq!(number_of(&mut state, &empty), expected);
+    }
+    let Book {
+        read, empty, few, ..
+    } = state.book;
+    assert_eq!((read, empty, few), (2, 2, 0));
+}
+
+#[test]
+fn openings_refuse_in_their_order() {
+    let good = options(2.0, 10, 4, false);
+    let nan = f64::NAN;
+    let bad_all = options(nan, 0, 4, false);
+    let with = |thresh, confidence, max_iters| Options {
+        thresh,
+        confidence,
+        max_iters,
+        ..good
+    };
+    let marks7 = &SQUARE[..7];
+    let cases: [(Options, &[f64], &[u32], u32); 9] = [
+        (bad_all, marks7, &[], 2),
+        (with(2.0, 1.0, 0), marks7, &[], 3),
+        (with(2.0, 0.5, 100_001), marks7, &[], 4),
+        (good, marks7, &[], 5),
+        (good, &[nan; 8], &[], 6),
+        (good, &SQUARE[..12], &[], 7),
+        (good, &SQUARE, &STOPS[..5], 8),
+        (with(2.0, 0.5, 100_000), &SQUARE, &STOPS, 0),
+        (with(f64::MAX, 5e-324, 1), &SQUARE, &STOPS, 0),
+    ];
+    for (options, marks, stops, number) in cases {
+        let answer = State::open(options, marks, stops).err().unwrap_or(0);
+        assert_eq!(answer, number, "{options:?}");
+        let record = options.record();
+        let answer = State::open_record(&record, marks, stops).err().unwrap_or(0);
+        assert_eq!(answer, number, "{options:?}");
+        let refused = State::open_record(&record[..31], marks, stops).err();
+        assert_eq!(refused, Some(1));
+    }
+}
+
+#[test]
+fn trials_refuse_in_their_order() {
+    let state = open(options(2.0, 10, 4, false));
+    let mut bad = fit(I);
+    bad[0] = 2;
+    let nan = f64::NAN;
+    let cases: [(&[f64], &[u32], &[u8], u32); 7] = [
+        (&SQUARE[..7], &[], &bad, 5),
+        // Four marks, where the run has five.
+        (&[nan; 16], &[], &bad, 5),
+        (&[nan; 20], &[], &bad, 6),
+        (&SQUARE, &STOPS[..5], &bad, 8),
+        (&SQUARE, &STOPS, &bad, 1),
+        (&SQUARE, &STOPS, &bad[..151], 1),
+        (&SQUARE, &STOPS, &fit(I), 0),
+    ];
+    for (marks, stops, record, number) in cases {
+        let call = Call {
+            record,
+            marks,
+            stops,
+        };
+        let mut after = state;
+        assert_eq!(after.trial(&call).number(), number);
+        assert_eq!(after.words() == state.words(), number != 0);
+        after = state;
+        after.book.bound = 0;
+        assert_eq!(after.trial(&call).number(), 10);
+    }
+    // A hand-made n of three: 7, where the list has three too.
+    let mut three = state;
+    three.n = 3;
+    let call = Call {
+        record: &bad,
+        marks: &SQUARE[..12],
+        stops: &[],
+    };
+    assert_eq!(three.trial(&call).number(), 7);
+}
+
+/// 01's kinds of a malformed record, one by one.
+#[test]
+fn malformed_trials() {
+    let refused = |change: &dyn Fn(&mut [u8; 152])| {
+        let mut record = fit(I);
+        change(&mut record);
+        trial_of_record(&record).is_err()
+    };
+    assert!(!refused(&|_| ()));
+    assert!(refused(&|r| r[0] = 2));
+    assert!(refused(&|r| r[1] = 2));
+    assert!(refused(&|r| r[7] = 1));
+    // Unmarked, and not zero bytes: minus zero too.
+    assert!(refused(&|r| r[0] = 0));
+    assert!(refused(&|r| r[87] = 0x80));
+    assert!(!refused(&|r| (r[1], r[87]) = (1, 0x80)));
+    // A refit without a fit.
+    assert!(refused(&|r| {
+        r.fill(0);
+        r[1] = 1;
+    }));
+    for bad in [f64::NAN, f64::INFINITY, f64::NEG_INFINITY] {
+        assert!(refused(&|r| r[72..80].copy_from_slice(&bad.to_le_bytes())));
+        assert!(refused(&|r| {
+            r[1] = 1;
+            r[144..].copy_from_slice(&bad.to_le_bytes());
+        }));
+    }
+}
+
+#[test]
+fn records_come_back() {
+    let options = options(2.5, 7, 3, true);
+    let again = Options::of_record(&options.record()).expect("a record");
+    assert_eq!(again.record(), options.record());
+    let trial = Trial {
+        fit: Some(I),
+        refit: Some([-0.0; 9]),
+    };
+    let again = trial_of_record(&trial_record(&trial)).expect("a record");
+    assert_eq!(trial_record(&again), trial_record(&trial));
+    let mut state = open(options);
+    try_one(&mut state, &fit(T));
+    assert_eq!(State::of_words(&state.words()).words(), state.words());
+}
+
+#[test]
+fn hand_made_states() {
+    let fresh = open(options(2.0, 10, 4, false));
+    let with = |read, empty, bound| {
+        let mut state = fresh;
+        (state.book.read, state.book.empty, state.book.bound) = (read, empty, bound);
+        state
+    };
+    for (read, empty, bound, number) in [
+        (u32::MAX, 0, u32::MAX, 10),
+        (u32::MAX - 1, 0, u32::MAX, 10),
+        (100_000, 0, u32::MAX, 10),
+        (99_999, 99_999, u32::MAX, 0),
+        (3, 4, 9, 10),
+        (3, 3, 3, 10),
+        (3, 3, 4, 0),
+    ] {
+        let mut state = with(read, empty, bound);
+        assert_eq!(number_of(&mut state, &fit(I)), number, "{read} {empty}");
+    }
+    // No iterations, and a bound: the trial is read, and ends the run.
+    let mut none = with(0, 0, 5);
+    none.options.max_iters = 0;
+    assert_eq!(told(try_one(&mut none, &fit(I))), (4, 4, 0.0));
+    assert_eq!((none.book.read, none.book.bound), (1, 0));
+    // A threshold of +inf takes infinite distances in, and a NaN none.
+    let mut all = fresh;
+    all.options.thresh = f64::INFINITY;
+    let expected = (4, 5, f64::INFINITY);
+    assert_eq!(told(try_one(&mut all, &fit(BEHIND))), expected);
+    assert_eq!(all.winner_indices(&SQUARE, 5), Ok(vec![0, 1, 2, 3, 4]));
+    all.options.thresh = f64::NAN;
+    assert_eq!(told(try_one(&mut all, &fit(I))), (2, 0, 0.0));
+    assert_eq!(all.winner_indices(&SQUARE, 5), Ok(vec![]));
+}
+
+#[test]
+fn indices_refuse_in_their_order() {
+    let mut state = open(options(2.0, 10, 4, false));
+    let nan = f64::NAN;
+    assert_eq!(state.winner_indices(&[nan; 7], 0), Err(11));
+    try_one(&mut state, &fit(I));
+    assert_eq!(state.winner_indices(&[nan; 7], 0), Err(5));
+    assert_eq!(state.winner_indices(&SQUARE[..16], 0), Err(5));
+    assert_eq!(state.winner_indices(&[nan; 20], 0), Err(6));
+    assert_eq!(state.winner_indices(&SQUARE, 4), Err(9));
+    state.n = 3;
+    assert_eq!(state.winner_indices(&SQUARE[..12], 0), Err(7));
+}
+
+/// 01's worked run, word for word.
+#[test]
+fn the_program_prints() {
+    let text = "\
+trial outcome count rms
+1 won 4 0000000000000000
+2 empty - -
+3 few 1 -
+winner 1 4 0000000000000000
+indices 0 1 2 3
+counts 3 1 1 1
+";
+    assert_eq!(printed(&example::sheet().bytes().inputs()), text);
+}
+
+#[test]
+fn the_program_prints_otherwise() {
+    let case = example::sheet();
+    // A cut-off trial is refused where it is reached, and not behind the bound.
+    let mut bytes = case.bytes();
+    bytes.trials.truncate(152 + 151);
+    let text = "trial outcome count rms\n1 won 4 0000000000000000\nrefused 1\n";
+    assert_eq!(printed(&bytes.inputs()), text);
+    let mut bytes = case.bytes();
+    bytes.trials.truncate(3 * 152 + 1);
+    assert_eq!(printed(&bytes.inputs()), printed(&case.bytes().inputs()));
+    bytes.trials.clear();
+    let text = "trial outcome count rms\nwinner none\ncounts 0 0 0 0\n";
+    assert_eq!(printed(&bytes.inputs()), text);
+    // Files that aren't there.
+    bytes.stops.clear();
+    assert_eq!(printed(&bytes.inputs()), "refused 8\n");
+    bytes.marks.clear();
+    assert_eq!(printed(&bytes.inputs()), "refused 7\n");
+    bytes.options.clear();
+    assert_eq!(printed(&bytes.inputs()), "refused 1\n");
+    // No marks within: the indices line is its word alone.
+    let mut case = example::sheet();
+    case.options.min_inliers = 0;
+    case.trials = vec![Trial {
+        fit: Some(BEHIND),
+        refit: None,
+    }];
+    let text = "\
+trial outcome count rms
+1 won 0 7ff0000000000000
+winner 1 0 7ff0000000000000
+indices
+counts 1 0 0 1
+";
+    assert_eq!(printed(&case.bytes().inputs()), text);
+}
+
+#[test]
+fn the_whole_run_writes_its_outputs() {
+    let bytes = example::sheet().bytes();
+    let (mut winner, mut indices) = ([7; 90], [7; 22]);
+    assert_eq!(run(&bytes.inputs(), &mut winner, &mut indices), 0);
+    assert_eq!(winner[..8], [4, 0, 0, 0, 1, 0, 0, 0]);
+    assert_eq!(
+        winner[8..24],
+        [0, 0, 0, 0, 0, 0, 0, 0, 0, 0, 0, 0, 0, 0, 0xf0, 0x3f]
+    );
+    assert_eq!(winner[88..], [7, 7]);
+    assert_eq!(indices[..8], [0, 0, 0, 0, 1, 0, 0, 0]);
+    assert_eq!(indices[16..], [7; 6]);
+}
+
+/// The orders that 01 gives for the whole run.
+#[test]
+fn the_whole_run_refuses_in_its_order() {
+    let good = example::sheet().bytes();
+    let numbered = |trials: &[u8], winner: usize, indices: usize| {
+        let mut bytes = good.clone();
+        bytes.trials = trials.to_vec();
+        let (mut first, mut second) = (vec![7; winner], vec![7; indices]);
+        let number = run(&bytes.inputs(), &mut first, &mut second);
+        if number != 0 {
+            assert!(first.iter().chain(&second).all(|&byte| byte == 7));
+        }
+        number
+    };
+    assert_eq!(numbered(&good.trials[..151], 0, 0), 1);
+    assert_eq!(numbered(&[], 87, 20), 9);
+    assert_eq!(numbered(&[], 88, 19), 9);
+    assert_eq!(numbered(&[], 88, 20), 11);
+    // The winner has four indices, and room for five is asked for.
+    assert_eq!(numbered(&good.trials, 88, 19), 9);
+    assert_eq!(numbered(&good.trials, 88, 20), 0);
+    // A malformed trial behind the bound isn't seen; before it, it is.
+    let mut trials = good.trials.clone();
+    trials[3 * 152] = 2;
+    assert_eq!(numbered(&trials, 88, 20), 0);
+    trials[2 * 152] = 2;
+    assert_eq!(numbered(&trials, 88, 20), 1);
+    assert_eq!(numbered(&trials, 88, 19), 9);
+}
