@@ -1,8 +1,10 @@
-//! Links the proved archive libprobe.a: from target/staticlib of the
-//! repository, or from the folder that PROBE_DIR names.
+//! Links the proved archives: from target/staticlib of the repository, or from
+//! the folder that PROBE_DIR names.
 
 use std::env;
 use std::path::{Path, PathBuf};
+
+const ARCHIVES: [&str; 3] = ["probe", "probe_pick", "salghemu"];
 
 fn main() {
     println!("cargo:rerun-if-env-changed=PROBE_DIR");
@@ -11,13 +13,15 @@ fn main() {
         None => Path::new(&env::var("CARGO_MANIFEST_DIR").expect("run by cargo"))
             .join("../../target/staticlib"),
     };
-    let archive = folder.join("libprobe.a");
-    println!("cargo:rerun-if-changed={}", archive.display());
-    assert!(
-        archive.exists(),
-        "no {}: run `rt staticlib probe` first",
-        archive.display()
-    );
     println!("cargo:rustc-link-search=native={}", folder.display());
-    println!("cargo:rustc-link-lib=static=probe");
+    for name in ARCHIVES {
+        let archive = folder.join(format!("lib{name}.a"));
+        println!("cargo:rerun-if-changed={}", archive.display());
+        assert!(
+            archive.exists(),
+            "no {}: run `rt staticlib {name}` first",
+            archive.display()
+        );
+        println!("cargo:rustc-link-lib=static={name}");
+    }
 }

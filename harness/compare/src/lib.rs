@@ -20,6 +20,16 @@ pub fn junk(len: usize) -> Vec<f64> {
     (0..len).map(|place| 1e12 + place as f64).collect()
 }
 
+/// Bytes to lend: no two places near each other hold the same.
+pub fn junk_bytes(len: usize) -> Vec<u8> {
+    (0..len).map(|place| (37 * place + 11) as u8).collect()
+}
+
+/// Words to lend; no answer is so large.
+pub fn junk_words(len: usize) -> Vec<u64> {
+    (0..len).map(|place| u64::MAX - place as u64).collect()
+}
+
 /// Whether a run of so many random cases must meet every answer: a short one
 /// need not.
 pub fn is_long(count: usize) -> bool {

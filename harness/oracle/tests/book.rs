@@ -166,25 +166,24 @@ fn openings_refuse_in_their_order() {
 #[test]
 fn trials_refuse_in_their_order() {
     let state = open(options(2.0, 10, 4, false));
-    let mut bad = fit(I);
+    let (good, mut bad) = (fit(I), fit(I));
     bad[0] = 2;
-    let nan = f64::NAN;
-    let cases: [(&[f64], &[u32], &[u8], u32); 7] = [
-        (&SQUARE[..7], &[], &bad, 5),
+    let call = |marks, stops, record| Call {
+        record,
+        marks,
+        stops,
+    };
+    let cases = [
+        (call(&SQUARE[..7], &[], &bad), 5),
         // Four marks, where the run has five.
-        (&[nan; 16], &[], &bad, 5),
-        (&[nan; 20], &[], &bad, 6),
-        (&SQUARE, &STOPS[..5], &bad, 8),
-        (&SQUARE, &STOPS, &bad, 1),
-        (&SQUARE, &STOPS, &bad[..151], 1),
-        (&SQUARE, &STOPS, &fit(I), 0),
+        (call(&[f64::NAN; 16], &[], &bad), 5),
+        (call(&[f64::NAN; 20], &[], &bad), 6),
+        (call(&SQUARE, &STOPS[..5], &bad), 8),
+        (call(&SQUARE, &STOPS, &bad), 1),
+        (call(&SQUARE, &STOPS, &bad[..151]), 1),
+        (call(&SQUARE, &STOPS, &good), 0),
     ];
-    for (marks, stops, record, number) in cases {
-        let call = Call {
-            record,
-            marks,
-            stops,
-        };
+    for (call, number) in cases {
         let mut after = state;
         assert_eq!(after.trial(&call).number(), number);
         assert_eq!(after.words() == state.words(), number != 0);
@@ -195,11 +194,7 @@ fn trials_refuse_in_their_order() {
     // A hand-made n of three: 7, where the list has three too.
     let mut three = state;
     three.n = 3;
-    let call = Call {
-        record: &bad,
-        marks: &SQUARE[..12],
-        stops: &[],
-    };
+    let call = call(&SQUARE[..12], &[], &bad);
     assert_eq!(three.trial(&call).number(), 7);
 }
 

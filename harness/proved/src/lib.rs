@@ -1,7 +1,10 @@
-//! The proved leaves, from the archive libprobe.a.
+//! The proved leaves and the sheet's entries, from the archive libprobe.a; the
+//! picker is in [`pick`].
 //!
 //! Marks are one flat list, four numbers each. A side is 0 for the sheet and
 //! anything else for the pixels. A lent list is written from its front.
+
+pub mod pick;
 
 mod c {
     unsafe extern "C" {

@@ -1,0 +1,481 @@
+//! The proved opening and trial, one call at a time: against `ransac_fit` at
+//! the end, and against the book at every step.
+
+use compare::{Tally, junk_words};
+use oracle::book::{Book, Call, Options, State, Words, trial_record};
+use oracle::cases::{NANS, Random};
+use oracle::pick_cases::{
+    Case, any_stops, damage_marks, damage_options, damage_trial, hand_made, other_length,
+    reference, runs,
+};
+use oracle::{Model, Trial, ransac_fit};
+use proved::pick::{self, NO_WORDS};
+
+/// A number of runs from which on every answer must come up.
+const LONG: usize = 2_000;
+
+/// A trial's 27 words.
+type Told = [u64; 27];
+
+fn of_type(options: &Options) -> pick::Options {
+    pick::Options {
+        thresh: options.thresh,
+        confidence: options.confidence,
+        max_iters: options.max_iters,
+        min_inliers: options.min_inliers,
+        refit: options.refit,
+    }
+}
+
+/// One list of words after an opening: the state's in front, the rest as it
+/// was; all as it was if refused.
+fn opened(number: u32, words: &[u64], expected: &Result<State, u32>) {
+    let mut theirs = junk_words(words.len());
+    if let Ok(state) = expected {
+        theirs[..24].copy_from_slice(&state.words());
+    }
+    assert_eq!(number, expected.as_ref().err().copied().unwrap_or(0));
+    assert_eq!(words, theirs);
+}
+
+/// Opens from a record; tells the refusal or 0.
+fn open(record: &[u8], marks: &[f64], stops: &[u32]) -> u32 {
+    let expected = State::open_record(record, marks, stops);
+    for room in [24, 30] {
+        let mut words = junk_words(room);
+        let number = pick::open(record, marks, stops, &mut words);
+        opened(number, &words, &expected);
+    }
+    expected.err().unwrap_or(0)
+}
+
+/// Opens from the type; tells the refusal or 0.
+fn open_options(options: &Options, marks: &[f64], stops: &[u32]) -> u32 {
+    let expected = State::open(*options, marks, stops);
+    let mut words = junk_words(25);
+    let number = pick::open_options(of_type(options), marks, stops, &mut words);
+    opened(number, &words, &expected);
+    expected.err().unwrap_or(0)
+}
+
+/// One trial call on any words, with more room than it needs.
+fn called(words: &Words, call: &Call) -> Told {
+    let mut out = junk_words(28);
+    let answer = pick::trial(words, call.record, call.marks, call.stops, &mut out);
+    assert_eq!(answer, 0);
+    assert_eq!(out[27], junk_words(28)[27]);
+    out[..27].try_into().expect("27 words")
+}
+
+/// What the book has for the same call.
+fn expected(words: &Words, call: &Call) -> Told {
+    let mut state = State::of_words(words);
+    let outcome = state.trial(call);
+    let mut told = [0; 27];
+    told[..24].copy_from_slice(&state.words());
+    told[24..].copy_from_slice(&outcome.words());
+    told
+}
+
+/// Compares one call; tells its words.
+fn compare(words: &Words, call: &Call) -> Told {
+    let ours = called(words, call);
+    assert_eq!(ours, expected(words, call), "{words:?} {call:?}");
+    ours
+}
+
+fn state_of(told: &Told) -> Words {
+    told[..24].try_into().expect("24 words")
+}
+
+/// The refusal, or 0.
+fn number_of(told: &Told) -> u32 {
+    if told[24] == 0 { told[25] as u32 } else { 0 }
+}
+
+/// The state's words of an opening from the case's record.
+fn opening(case: &Case) -> Words {
+    let mut words = [0; 24];
+    let record = case.options.record();
+    assert_eq!(pick::open(&record, &case.marks, &case.stops, &mut words), 0);
+    words
+}
+
+/// How often each outcome came, and how often the bound rose.
+#[derive(Debug, Default)]
+struct Outcomes([usize; 5], usize);
+
+impl Outcomes {
+    fn add(&mut self, before: &Words, told: &Told) {
+        self.0[told[24] as usize] += 1;
+        self.1 += usize::from(told[10] > before[10]);
+    }
+}
+
+// Openings.
+
+#[test]
+fn openings() {
+    let random = &mut Random::new(40);
+    let mut tallies = [Tally::default(), Tally::default()];
+    let count = runs(10_000, 50);
+    for i in 0..count {
+        let mut case = any_stops(random, i);
+        let mut record = case.options.record().to_vec();
+        if random.below(3) == 0 {
+            damage_options(random, &mut record);
+        }
+        if random.below(3) == 0 {
+            damage_marks(random, &mut case.marks);
+        }
+        if random.below(3) == 0 {
+            case.stops.resize(random.below(9) as usize, 1);
+        }
+        tallies[0].add(open(&record, &case.marks, &case.stops));
+        if let Ok(options) = Options::of_record(&record) {
+            tallies[1].add(open_options(&options, &case.marks, &case.stops));
+        }
+    }
+    tallies[0].show("opening from a record");
+    tallies[1].show("opening from the type");
+    if count >= LONG {
+        tallies[0].met(&[0, 1, 2, 3, 4, 5, 6, 7, 8]);
+        tallies[1].met(&[0, 2, 3, 4, 5, 6, 7, 8]);
+    }
+}
+
+#[test]
+fn openings_of_any_options() {
+    let random = &mut Random::new(41);
+    let case = reference(random, 1);
+    for _ in 0..runs(20_000, 50) {
+        let options = Options {
+            thresh: random.pattern(),
+            confidence: random.pick(&[0.5, 0.99, 1.0, 0.0, -0.5, f64::NAN]),
+            max_iters: random.pick(&[0, 1, 99_999, 100_000, 100_001, u32::MAX]),
+            min_inliers: random.word() as u32,
+            refit: random.below(2) == 0,
+        };
+        open_options(&options, &case.marks, &case.stops);
+        open(&options.record(), &case.marks, &case.stops);
+    }
+}
+
+#[test]
+fn the_maker_from_a_threshold() {
+    let random = &mut Random::new(42);
+    let mut numbers = NANS.map(f64::from_bits).to_vec();
+    numbers.extend([0.0, -0.0, 2.0, f64::INFINITY, -1.0, f64::MAX, 5e-324]);
+    numbers.extend((0..1000).map(|_| random.pattern()));
+    for thresh in numbers {
+        let mut words = junk_words(6);
+        assert_eq!(pick::new_options(thresh, &mut words), 0);
+        let mut theirs = junk_words(6);
+        let case = State {
+            options: Options::new(thresh),
+            n: 0,
+            book: Book::opened(&Options::new(thresh)),
+        };
+        theirs[..5].copy_from_slice(&case.words()[..5]);
+        assert_eq!(words, theirs);
+    }
+}
+
+/// Lists too short for the words: nothing is written.
+#[test]
+fn no_room_for_words() {
+    let case = reference(&mut Random::new(43), 1);
+    let (record, marks, stops) = (case.options.record(), &case.marks, &case.stops);
+    let state = opening(&case);
+    let empty = trial_record(&Trial::default());
+    for room in [0, 1, 4, 23] {
+        let mut words = junk_words(room);
+        assert_eq!(pick::open(&record, marks, stops, &mut words), NO_WORDS);
+        let options = of_type(&case.options);
+        let answer = pick::open_options(options, marks, stops, &mut words);
+        assert_eq!(answer, NO_WORDS);
+        let mut out = junk_words(27);
+        let answer = pick::trial(&state[..room], &empty, marks, stops, &mut out);
+        assert_eq!((answer, out), (NO_WORDS, junk_words(27)));
+        assert_eq!(words, junk_words(room));
+    }
+    for room in [0, 4] {
+        let mut words = junk_words(room);
+        assert_eq!(pick::new_options(2.0, &mut words), NO_WORDS);
+        assert_eq!(words, junk_words(room));
+    }
+    for room in [0, 24, 26] {
+        let mut out = junk_words(room);
+        let answer = pick::trial(&state, &empty, marks, stops, &mut out);
+        assert_eq!((answer, out), (NO_WORDS, junk_words(room)));
+    }
+}
+
+// Lists of calls.
+
+/// The state after the case's trials, each compared; then one call more.
+fn replayed(case: &Case, outcomes: &mut Outcomes) -> Words {
+    let mut words = opening(case);
+    let mut book = Book::opened(&case.options);
+    for trial in &case.trials {
+        let record = trial_record(trial);
+        let call = Call {
+            record: &record,
+            marks: &case.marks,
+            stops: &case.stops,
+        };
+        let told = compare(&words, &call);
+        // The book knows nothing of the state that the calls hand on.
+        let outcome = book.call(&case.options, case.n() as u64, &call);
+        assert_eq!(outcome.words(), told[24..], "{case:?}");
+        outcomes.add(&words, &told);
+        words = state_of(&told);
+    }
+    let after = State {
+        options: case.options,
+        n: case.n() as u64,
+        book,
+    };
+    assert_eq!(after.words(), words, "{case:?}");
+    words
+}
+
+#[test]
+fn trials_give_what_ransac_fit_gives() {
+    let random = &mut Random::new(44);
+    let mut outcomes = Outcomes::default();
+    let count = runs(8_000, 100);
+    for i in 0..count {
+        let case = reference(random, i);
+        let theirs = ransac_fit(case.mark_list(), &case.ransac_options(), &case.trials);
+        let words = replayed(&case, &mut outcomes);
+        assert_eq!(words[6], theirs.read as u64, "{case:?}");
+        assert_eq!(words[6], words[7] + words[8] + words[9]);
+        let mut expected = [0; 13];
+        if let Some(winner) = &theirs.winner {
+            expected[..2].copy_from_slice(&[1, winner.inliers.len() as u64]);
+            expected[2..4].copy_from_slice(&[winner.number as u64, winner.rms.to_bits()]);
+            expected[4..].copy_from_slice(&winner.model.map(f64::to_bits));
+        }
+        assert_eq!(words[11..], expected, "{case:?}");
+    }
+    println!("trials, as ransac_fit: {outcomes:?}");
+    if count >= LONG {
+        assert!(outcomes.0.iter().all(|&times| times > 0) && outcomes.1 > 0);
+    }
+}
+
+#[test]
+fn trials_with_any_stop_list() {
+    let random = &mut Random::new(45);
+    let mut outcomes = Outcomes::default();
+    let count = runs(8_000, 100);
+    for i in 0..count {
+        replayed(&any_stops(random, i), &mut outcomes);
+    }
+    println!("trials, any stops: {outcomes:?}");
+    if count >= LONG {
+        assert!(outcomes.0.iter().all(|&times| times > 0) && outcomes.1 > 0);
+    }
+}
+
+/// What a call hands in, whole or damaged somewhere.
+#[derive(Clone)]
+struct Handed {
+    record: Vec<u8>,
+    marks: Vec<f64>,
+    stops: Vec<u32>,
+}
+
+impl Handed {
+    fn of(case: &Case, trial: &Trial) -> Self {
+        Self {
+            record: trial_record(trial).to_vec(),
+            marks: case.marks.clone(),
+            stops: case.stops.clone(),
+        }
+    }
+
+    fn call(&self) -> Call<'_> {
+        Call {
+            record: &self.record,
+            marks: &self.marks,
+            stops: &self.stops,
+        }
+    }
+
+    /// Damages one, two or all three of them.
+    fn damage(&mut self, random: &mut Random) {
+        let ways = 1 + random.below(7);
+        if ways & 1 != 0 {
+            match random.below(4) {
+                0 => other_length(random, &mut self.record),
+                _ => damage_trial(random, &mut self.record),
+            }
+        }
+        if ways & 2 != 0 {
+            damage_marks(random, &mut self.marks);
+        }
+        if ways & 4 != 0 {
+            self.stops.resize(random.below(14) as usize, 1);
+        }
+    }
+
+    /// Other numbers in lists of the same lengths: not refused.
+    fn replace(&mut self, random: &mut Random) {
+        for x in &mut self.marks {
+            *x = random.from_to(-20, 20) as f64;
+        }
+        for stop in &mut self.stops {
+            *stop = random.below(20) as u32;
+        }
+    }
+}
+
+/// Calls that are refused leave the state, whatever they carry, at any place
+/// of a list.
+#[test]
+fn refused_calls_in_between() {
+    let random = &mut Random::new(46);
+    let mut tally = Tally::default();
+    let count = runs(8_000, 100);
+    for i in 0..count {
+        let case = any_stops(random, i);
+        let mut words = opening(&case);
+        for trial in case.trials.iter().take(12) {
+            let mut handed = Handed::of(&case, trial);
+            match random.below(8) {
+                0..=3 => handed.damage(random),
+                4 => handed.replace(random),
+                _ => {}
+            }
+            let told = compare(&words, &handed.call());
+            tally.add(number_of(&told));
+            assert!(told[24] != 0 || words == state_of(&told));
+            words = state_of(&told);
+        }
+    }
+    tally.show("trials, some refused");
+    if count >= LONG {
+        tally.met(&[0, 1, 5, 6, 8, 10]);
+    }
+}
+
+// States made by hand.
+
+/// Every model of the case's trials, and one.
+fn pool(case: &Case) -> Vec<Model> {
+    let mut list: Vec<Model> = case.trials.iter().filter_map(|trial| trial.fit).collect();
+    list.push([1.0, 0.0, 0.0, 0.0, 1.0, 0.0, 0.0, 0.0, 1.0]);
+    list
+}
+
+#[test]
+fn hand_made_states() {
+    let random = &mut Random::new(47);
+    let mut tally = Tally::default();
+    let count = runs(20_000, 50);
+    for i in 0..count {
+        let case = any_stops(random, i);
+        let mut words = opening(&case);
+        hand_made(random, &mut words, &pool(&case));
+        let trial = case.trials.first().copied().unwrap_or_default();
+        let mut handed = Handed::of(&case, &trial);
+        match random.below(8) {
+            0 => handed.damage(random),
+            // As many marks as a hand-made state says: three, or none.
+            1 => handed.marks.truncate(4 * words[5].min(2000) as usize),
+            _ => {}
+        }
+        tally.add(number_of(&compare(&words, &handed.call())));
+    }
+    tally.show("trials on hand-made states");
+    if count >= LONG {
+        tally.met(&[0, 1, 5, 6, 7, 8, 10]);
+    }
+}
+
+/// Words to replace, by their places.
+type Changes<'a> = &'a [(usize, u64)];
+
+/// A fresh state of the worked run with some words replaced, and a good trial.
+fn worked(changes: Changes) -> Told {
+    let case = oracle::example::sheet();
+    let mut words = opening(&case);
+    for &(place, word) in changes {
+        words[place] = word;
+    }
+    compare(&words, &Handed::of(&case, &case.trials[0]).call())
+}
+
+#[test]
+fn states_at_the_limits() {
+    let top = u64::from(u32::MAX);
+    let cases: [(Changes, u64, u64); 14] = [
+        (&[(6, top), (10, top)], 0, 10),
+        (&[(6, top - 1), (10, top)], 0, 10),
+        (&[(6, 100_000), (10, top)], 0, 10),
+        (&[(6, 99_999), (10, top)], 4, 4),
+        (&[(6, 99_999), (10, 99_999)], 0, 10),
+        (&[(2, 0), (10, 5)], 4, 4),
+        (&[(7, 1)], 0, 10),
+        (&[(8, top)], 0, 10),
+        (&[(9, 1)], 0, 10),
+        (&[(6, 1), (7, 1), (8, 1), (9, 1)], 4, 4),
+        (&[(5, u64::MAX)], 0, 5),
+        (&[(5, 1 << 62)], 0, 5),
+        (&[(5, (1 << 32) + 5)], 0, 5),
+        // Words that a count takes modulo 2^32.
+        (&[(6, 1 << 32), (7, 7 << 32)], 4, 4),
+    ];
+    for (changes, outcome, number) in cases {
+        let told = worked(changes);
+        assert_eq!(told[24..26], [outcome, number], "{changes:?}");
+    }
+    // The one trial that it reads ends it.
+    let told = worked(&[(2, 0), (10, 5)]);
+    assert_eq!((told[6], told[10]), (1, 0));
+}
+
+/// Options that no opening accepts are used as they are.
+#[test]
+fn hand_made_thresholds() {
+    let case = oracle::example::sheet();
+    let behind = [1.0, 0.0, 0.0, 0.0, 1.0, 0.0, 0.0, 0.0, -1.0];
+    let trial = Trial {
+        fit: Some(behind),
+        refit: None,
+    };
+    let infinite = f64::INFINITY.to_bits();
+    let handed = Handed::of(&case, &trial);
+    let mut words = opening(&case);
+    words[0] = infinite;
+    let told = compare(&words, &handed.call());
+    assert_eq!(told[24..], [4, 5, infinite]);
+    for nan in NANS {
+        words[0] = nan;
+        words[1] = nan;
+        let told = compare(&words, &Handed::of(&case, &case.trials[0]).call());
+        assert_eq!(told[24..], [2, 0, 0]);
+        assert_eq!(told[..2], [0x7ff8_0000_0000_0000; 2]);
+    }
+}
+
+/// A winner made by hand: its count is the largest there is, or its rms a NaN.
+#[test]
+fn hand_made_winners() {
+    let winner = |count: u64, rms: f64| [(11, 1), (12, count), (13, 77), (14, rms.to_bits())];
+    for (count, rms, outcome) in [
+        (u64::from(u32::MAX), 0.0, 3),
+        (4, 0.0, 3),
+        (4, 1e-300, 4),
+        (4, f64::NAN, 3),
+        (4, f64::INFINITY, 4),
+        (4, -1.0, 3),
+        (3, 0.0, 4),
+        ((9 << 32) + 3, 0.0, 4),
+    ] {
+        let told = worked(&winner(count, rms));
+        assert_eq!(told[24], outcome, "{count} {rms:e}");
+    }
+}
