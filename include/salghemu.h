@@ -1,0 +1,105 @@
+/*
+ * Salghemu: of many candidate flattenings of a camera picture, picks the one
+ * that most printed marks agree with. Link libsalghemu.a.
+ *
+ * All numbers in the records are little-endian; a double is an IEEE 754
+ * binary64.
+ */
+#ifndef SALGHEMU_H
+#define SALGHEMU_H
+
+#include <stddef.h>
+#include <stdint.h>
+
+#ifdef __cplusplus
+extern "C" {
+#endif
+
+/* Bytes of each record, and the most marks that a run takes. */
+#define SALGHEMU_OPTIONS_BYTES 32
+#define SALGHEMU_MARK_BYTES 32
+#define SALGHEMU_STOP_BYTES 4
+#define SALGHEMU_TRIAL_BYTES 152
+#define SALGHEMU_WINNER_BYTES 88
+#define SALGHEMU_INDEX_BYTES 4
+#define SALGHEMU_MOST_MARKS 2000
+
+/* The refusals. */
+enum salghemu_refusal {
+    /* A record of a wrong length, with a mark other than 0 or 1, filler or an
+       unmarked number that is not zero bytes, a refit without a fit, or a
+       number of a candidate that is not finite. */
+    SALGHEMU_RECORD = 1,
+    /* The threshold is not finite or not above 0. */
+    SALGHEMU_THRESH = 2,
+    /* The confidence is not strictly between 0 and 1. */
+    SALGHEMU_CONFIDENCE = 3,
+    /* The most iterations are 0 or above 100,000. */
+    SALGHEMU_ITERS = 4,
+    /* The list of marks has not 32 bytes a mark, or is over 64,000 bytes. */
+    SALGHEMU_SHAPE = 5,
+    /* A number of a mark is not finite, or of magnitude above 1e9. */
+    SALGHEMU_POINT = 6,
+    /* Under four marks. */
+    SALGHEMU_FEW = 7,
+    /* The stop list has not one entry more than there are marks. */
+    SALGHEMU_STOPS = 8,
+    /* An output is too short. */
+    SALGHEMU_ROOM = 9,
+    /* A trial after the run's end; the whole run never answers it. */
+    SALGHEMU_ENDED = 10,
+    /* No trial was scored, so there is no winner. */
+    SALGHEMU_NONE = 11,
+    /* The rest are refusals of functions that this header does not have. */
+    /* Points without spread. */
+    SALGHEMU_SPREAD = 12,
+    /* The marks lie on a line of the sheet. */
+    SALGHEMU_SHEET_LINE = 13,
+    /* Their pixels lie on a line. */
+    SALGHEMU_PIXEL_LINE = 14,
+    /* A number that has no root, or a coefficient out of range. */
+    SALGHEMU_NUMBER = 15
+};
+
+/*
+ * The whole run: reads the trials in order until the stop list ends the run or
+ * none are left, and writes the winner.
+ *
+ * options  32 bytes: threshold and confidence (double), most iterations and
+ *          least marks of a scored trial (uint32_t), a byte 0 or 1 that asks
+ *          for refits, seven zero bytes.
+ * marks    32 bytes each: sheet x, y and pixel u, v (double); n marks, 4 to
+ *          2,000.
+ * stops    n + 1 entries (uint32_t): entry k is how many trials are enough
+ *          when one is scored with k marks.
+ * trials   152 bytes each: a byte 0 or 1 for a fit, another for a refit, six
+ *          zero bytes, nine doubles of the fit, nine of the refit.
+ * winner   88 bytes are written: the count of marks, the trial's number from 1
+ *          (uint32_t), the root mean square of the distances, the candidate's
+ *          nine numbers (double).
+ * indices  4n bytes are needed; an index (uint32_t) is written for each mark
+ *          that agrees, ascending, and the winner's count says how many.
+ *
+ * It returns 0, or a refusal; of several that hold, the first in this order:
+ * 1 for the options, 2 to 8, 1 for the length of the trial list, 9, 1 for a
+ * trial that is reached, 11. Refused, it writes nothing. Bytes past those said
+ * above stay as they were, and trials behind the end are not looked at.
+ *
+ * The caller guarantees, since nothing here can test it: each pointer is valid
+ * for its length, which is in bytes, the inputs for reading and the outputs
+ * for writing; neither output overlaps the other or an input; nobody changes
+ * any of them during the call. No alignment is needed. A length of 0 may go
+ * with NULL.
+ */
+uint32_t salghemu_run(const uint8_t *options, size_t options_len,
+                      const uint8_t *marks, size_t marks_len,
+                      const uint8_t *stops, size_t stops_len,
+                      const uint8_t *trials, size_t trials_len,
+                      uint8_t *winner, size_t winner_len,
+                      uint8_t *indices, size_t indices_len);
+
+#ifdef __cplusplus
+}
+#endif
+
+#endif
