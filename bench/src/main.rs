@@ -2,6 +2,7 @@
 //! rounds.
 
 mod root;
+mod run;
 mod sheet;
 
 use std::time::Instant;
@@ -26,4 +27,6 @@ fn main() {
     root::run();
     println!();
     sheet::run();
+    println!();
+    run::run();
 }
