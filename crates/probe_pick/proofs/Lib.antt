@@ -1,0 +1,3 @@
+pub mod Parts
+pub mod Widths
+pub mod Calls

@@ -1,0 +1,35 @@
+-- `probe_pick::reading::options_in` meets its contract. Assumes nothing.
+use borrow.Author.Needs.{needs}
+use Rattle.probe_pick.specs.Words.{optionsIn}
+use Rattle.probe_pick.proofs.reading.options_in.Statement.{statement}
+use Rattle.probe_pick.proofs.reading.options_in.Tie as tie
+
+number-at-requires : tie.Need-number-at-requires
+number-at-requires c κs = search needs
+
+number-at-requires-2 : tie.Need-number-at-requires-2
+number-at-requires-2 c κs = search needs
+
+small-at-requires : tie.Need-small-at-requires
+small-at-requires c κs = search needs
+
+small-at-requires-2 : tie.Need-small-at-requires-2
+small-at-requires-2 c κs = search needs
+
+flag-at-requires : tie.Need-flag-at-requires
+flag-at-requires c κs = search needs
+
+returns : tie.Need-returns
+unfolding optionsIn
+returns c = cc
+
+pub options-in-spec : {M : Type 1} → statement M
+options-in-spec =
+    tie.close
+    (tie.spec
+    number-at-requires
+    number-at-requires-2
+    small-at-requires
+    small-at-requires-2
+    flag-at-requires
+    returns)

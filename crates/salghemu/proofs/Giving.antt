@@ -1,0 +1,202 @@
+-- What a run gives and writes, one law for each way out. Assumes nothing.
+use mathlib.Core.Path.{_≡_, refl, sym, ap, ap₂, _∙_}
+use mathlib.Core.Bool.{Bool, true, false}
+use mathlib.Core.List.{List, [], _∷_, _++_, append-assoc}
+use Prim.Native.Nat.{ℕ, zero, suc, _+_, _-_, _*_, _≤_, _<_}
+use native.Mathlib.Nat.{zero-add}
+use native.Mathlib.Omega.{arith}
+use borrow.Author.Tests.{le-ltb}
+use borrow.Rule.Slice.PartMut.{midOf, putMid}
+use lib.ListN.{length, take, drop, replicate, length-append, length-map}
+use lib.Seq.{take-at}
+use lib.Ieee.{Float}
+use Rattle.rule.specs.Refusal.{NONE}
+use Rattle.rule.specs.Answer.{Answer, refused, gives}
+use Rattle.rule.specs.Order.{Test, firstFailed}
+use Rattle.rule.specs.Lists.{forEach, replaced, filled}
+use Rattle.rule.proofs.Lists.{forEach-length, part-replaced, part-filled, replaced-length, replaced-twice, filled-is, filled-replaced, filled-whole, places-count}
+use Rattle.sheet.specs.Marks.{marksOf}
+use Rattle.sheet.specs.Distance.{modelNumbers}
+use Rattle.sheet.specs.declared.model.Model.{Model}
+use Rattle.sheet.proofs.Places.{count}
+use Rattle.book.specs.Score.{close, countIn}
+use Rattle.book.specs.Book.{Winner, none, held}
+use Rattle.book.specs.Rule.{stopped, broken}
+use Rattle.book.proofs.Clear.{count-within}
+use Rattle.fields.specs.Fields.{bytesOf, doubleBytes}
+use Rattle.fields.proofs.Writing.{bytes-wide, word-wide, double-wide}
+use Rattle.score.specs.Distances.{distancesOf, indicesIn, cramped, indexed, indexCount}
+use Rattle.score.proofs.Walk.{ds-length}
+use Rattle.book.specs.Calls.{isRefusal, numberIn}
+use Rattle.pick.specs.Run.{viewWinner, viewBest, bookOf, viewOutcome}
+use Rattle.pick.specs.declared.run_state.Outcome.{Outcome}
+use Rattle.pick.specs.declared.run_state.Outcome.the-variants as Outcomes
+use Rattle.pick.specs.declared.run_state.Winner as State
+use Rattle.pick.specs.declared.run_state.Best.{Best}
+use Rattle.pick.specs.declared.run_state.Best.the-variants.{Nothing, Held}
+use Rattle.pick.specs.declared.run_state.State.{State}
+use Rattle.salghemu.specs.Whole.{afterTests, wonBy, resultOf, numberOf, winnerBytes, indexBytes, laidOver, written, Gave, viewRan}
+use Rattle.salghemu.specs.declared.Ran.{Ran}
+use Rattle.salghemu.specs.declared.Ran.the-variants as Ran
+
+-- ---- by the tests
+
+module _ (thresh : Float) (l : List Float) (winner indices : List ℕ) where
+  pub gave-number : {r : ℕ} (k : ℕ) → r ≡ k → Gave (refused k) thresh l winner indices r winner indices
+  unfolding numberOf written
+  gave-number k e = record { number-is = e; winner-is = refl; indices-is = refl }
+
+  module _ (a : Answer (Winner Model)) where
+    pub gave-refused : {r : ℕ} (k : ℕ) → r ≡ k → (r ≡ 0 → ⊥) → Gave (afterTests k a) thresh l winner indices r winner indices
+    unfolding afterTests
+    gave-refused zero e h = absurd (h e)
+    gave-refused (suc k) e h = gave-number (suc k) e
+
+    pub gave-passed : (k : ℕ) {r : ℕ} {winner′ indices′ : List ℕ} → 0 ≡ k → Gave a thresh l winner indices r winner′ indices′ → Gave (afterTests k a) thresh l winner indices r winner′ indices′
+    unfolding afterTests
+    gave-passed zero e g = g
+    gave-passed (suc k) e g = absurd (omega (arith, e))
+
+  -- ---- by how the trials ended
+
+  pub gave-broken : {ran : Ran} {k : ℕ} → ran ≡ Ran.Broken k → Gave (resultOf (viewRan ran)) thresh l winner indices k winner indices
+  unfolding resultOf viewRan
+  gave-broken {ran} {k} e = rw e (gave-number k refl)
+
+  pub gave-none : {ran : Ran} {s : State} → ran ≡ Ran.Stopped s → s .winner ≡ Nothing → Gave (resultOf (viewRan ran)) thresh l winner indices NONE winner indices
+  unfolding resultOf viewRan bookOf viewBest wonBy
+  gave-none e h = rw (e, h) (gave-number NONE refl)
+
+  pub gave-held : {ran : Ran} {s : State} → ran ≡ Ran.Stopped s → (w : State.Winner) → s .winner ≡ Held w → {winner′ indices′ : List ℕ}
+      → winner′ ≡ laidOver (winnerBytes (viewWinner w)) winner → indices′ ≡ laidOver (indexBytes thresh l (w .model)) indices
+      → Gave (resultOf (viewRan ran)) thresh l winner indices 0 winner′ indices′
+  unfolding resultOf viewRan bookOf viewBest wonBy viewWinner numberOf written
+  gave-held e w h p q = rw (e, h) (record { number-is = refl; winner-is = p; indices-is = q })
+
+-- ---- the winner's record
+
+winner-wide : (w : Winner Model) → length (winnerBytes w) ≡ 88
+unfolding winnerBytes modelNumbers
+winner-wide w =
+    length-append (bytesOf 4 (w .count)) _
+    ∙ rw (length-append (bytesOf 4 (w .number)), length-append (doubleBytes (w .rms)), word-wide (w .count), word-wide (w .number), double-wide (w .rms), forEach-length doubleBytes 8 double-wide (modelNumbers (w .model)))
+
+pub winner-laid : (w : Winner Model) (l : List ℕ) {xs : List ℕ} → xs ≡ winnerBytes w → putMid 0 (88 - 0) l xs ≡ laidOver (winnerBytes w) l
+unfolding replaced laidOver
+winner-laid w l {xs} e =
+    let wide : length xs ≡ 88 = ap length e ∙ winner-wide w in
+    part-replaced 0 88 xs l (zero-add (length xs) ∙ wide) ∙ rw (zero-add (length xs), e)
+
+module _ (w : Winner Model) (s : List ℕ) (room : length s ≡ 88) where
+  abbrev count-bytes : List ℕ
+  count-bytes = bytesOf 4 (w .count)
+
+  abbrev number-bytes : List ℕ
+  number-bytes = bytesOf 4 (w .number)
+
+  abbrev double-bytes : List ℕ
+  double-bytes = forEach doubleBytes (w .rms ∷ modelNumbers (w .model))
+
+  doubles-wide : length double-bytes ≡ 80
+  unfolding modelNumbers
+  doubles-wide = forEach-length doubleBytes 8 double-wide (w .rms ∷ modelNumbers (w .model))
+
+  parts : count-bytes ++ number-bytes ++ double-bytes ≡ winnerBytes w
+  unfolding winnerBytes forEach
+  parts = append-assoc count-bytes number-bytes double-bytes
+
+  both-wide : length (count-bytes ++ number-bytes) ≡ 8
+  both-wide = rw (length-append, word-wide (w .count), word-wide (w .number))
+
+  two : replaced 4 number-bytes (replaced 0 count-bytes s) ≡ replaced 0 (count-bytes ++ number-bytes) s
+  two =
+      ap (λ k. replaced k number-bytes (replaced 0 count-bytes s)) (sym (zero-add (length count-bytes) ∙ word-wide (w .count)))
+      ∙ replaced-twice 0 count-bytes number-bytes s (rw (zero-add (length count-bytes), word-wide (w .count)) (omega (arith, room)))
+
+  three : replaced 8 double-bytes (replaced 0 (count-bytes ++ number-bytes) s) ≡ winnerBytes w
+  three =
+      ap (λ k. replaced k double-bytes (replaced 0 (count-bytes ++ number-bytes) s)) (sym (zero-add (length (count-bytes ++ number-bytes)) ∙ both-wide))
+      ∙ replaced-twice 0 (count-bytes ++ number-bytes) double-bytes s (rw (zero-add (length (count-bytes ++ number-bytes)), both-wide) (omega (arith, room)))
+      ∙ ap (λ xs. replaced 0 xs s) parts
+      ∙ filled-replaced (winnerBytes w) s (rw (winner-wide w) (omega (arith, room)))
+      ∙ filled-whole (winnerBytes w) s (room ∙ sym (winner-wide w))
+
+  pub winner-put : {a b c : List ℕ} → a ≡ filled count-bytes (midOf 0 (4 - 0) s) → b ≡ filled number-bytes (midOf 4 (8 - 4) (putMid 0 (4 - 0) s a))
+      → c ≡ filled double-bytes (midOf 8 (88 - 8) (putMid 4 (8 - 4) (putMid 0 (4 - 0) s a) b))
+      → putMid 8 (88 - 8) (putMid 4 (8 - 4) (putMid 0 (4 - 0) s a) b) c ≡ winnerBytes w
+  winner-put {a} {b} {c} d e f =
+      let p : putMid 0 (4 - 0) s a ≡ replaced 0 count-bytes s = part-filled 0 4 count-bytes s (zero-add (length count-bytes) ∙ word-wide (w .count)) (omega (arith, room)) d in
+      let one : length (putMid 0 (4 - 0) s a) ≡ 88 = ap length p ∙ replaced-length 0 count-bytes s (rw (zero-add (length count-bytes), word-wide (w .count)) (omega (arith, room))) ∙ room in
+      let q : putMid 4 (8 - 4) (putMid 0 (4 - 0) s a) b ≡ replaced 0 (count-bytes ++ number-bytes) s =
+      part-filled 4 8 number-bytes (putMid 0 (4 - 0) s a) (ap (λ k. 4 + k) (word-wide (w .number))) (omega (arith, one)) e ∙ ap (replaced 4 number-bytes) p ∙ two in
+      let also : length (putMid 4 (8 - 4) (putMid 0 (4 - 0) s a) b) ≡ 88 = ap length q ∙ replaced-length 0 (count-bytes ++ number-bytes) s (rw (zero-add (length (count-bytes ++ number-bytes)), both-wide) (omega (arith, room))) ∙ room in
+      part-filled 8 88 double-bytes (putMid 4 (8 - 4) (putMid 0 (4 - 0) s a) b) (ap (λ k. 8 + k) doubles-wide) (omega (arith, also)) f
+      ∙ ap (replaced 8 double-bytes) q
+      ∙ three
+
+-- ---- the indices
+
+module _ (h : Model) (thresh : Float) (l : List Float) (entry : List ℕ) (short : length l ≤ 8000) (places : List ℕ) (wide : length places ≡ 2000)
+    {k : ℕ} (counted : k ≡ indexCount thresh (distancesOf l h) places) {after : List ℕ} (is : after ≡ indexed thresh (distancesOf l h) places)
+  where
+    abbrev ds : List Float
+    ds = distancesOf l h
+
+    abbrev xs : List ℕ
+    xs = indicesIn thresh ds
+
+    most : length ds ≤ 2000
+    most = let a = ds-length thresh l h in let b = count l in omega (arith, a, b, short)
+
+    not-cramped : cramped ds places ≡ false
+    unfolding cramped
+    not-cramped = rw (le-ltb (length places) (length ds) (let m = most in omega (arith, m, wide)), le-ltb 2000 (length ds) most)
+
+    k-is : k ≡ length xs
+    unfolding indexCount indicesIn countIn
+    k-is = counted ∙ rw not-cramped (sym (places-count (close thresh) 0 ds))
+
+    after-is : after ≡ xs ++ drop (length xs) places
+    unfolding indexed
+    after-is = is ∙ rw not-cramped
+
+    xs-few : length xs ≤ length ds
+    unfolding indicesIn countIn
+    xs-few = rw (places-count (close thresh) 0 ds) (count-within thresh ds)
+
+    pub inside : k ≤ length after
+    inside = let m = xs-few in let n = most in let e : length after ≡ length xs + (length (drop (length xs) places)) = ap length after-is ∙ length-append xs _ in let f = k-is in omega (arith, e, f)
+
+    pub indices-taken : take k after ≡ xs
+    indices-taken = rw (after-is, k-is) (take-at xs (drop (length xs) places) (length xs) refl)
+
+    pub indices-laid : {r : List ℕ} → 4 * length (marksOf l) ≤ length entry → r ≡ filled (forEach (bytesOf 4) (take k after)) entry → r ≡ laidOver (indexBytes thresh l h) entry
+    unfolding laidOver indexBytes
+    indices-laid room e =
+        let m = xs-few in
+        let a = ds-length thresh l h in
+        let b = forEach-length (bytesOf 4) 4 word-wide xs in
+        e ∙ ap (λ ys. filled (forEach (bytesOf 4) ys) entry) indices-taken ∙ filled-is (forEach (bytesOf 4) xs) entry (omega (arith, m, a, b, room))
+
+-- ---- an outcome
+
+module _ {q : Outcome} where
+  pub refused-is : {k : ℕ} → q ≡ Outcomes.Refused k → (true ≡ isRefusal (viewOutcome q)) × (k ≡ numberIn (viewOutcome q))
+  unfolding viewOutcome isRefusal numberIn
+  refused-is e = (rw e, rw e)
+
+  pub empty-is : q ≡ Outcomes.Empty → (false ≡ isRefusal (viewOutcome q)) × (0 ≡ numberIn (viewOutcome q))
+  unfolding viewOutcome isRefusal numberIn
+  empty-is e = (rw e, rw e)
+
+  pub few-is : {k : ℕ} → q ≡ Outcomes.Few k → (false ≡ isRefusal (viewOutcome q)) × (0 ≡ numberIn (viewOutcome q))
+  unfolding viewOutcome isRefusal numberIn
+  few-is e = (rw e, rw e)
+
+  pub held-is : {k : ℕ} {x : Float} → q ≡ Outcomes.Held k x → (false ≡ isRefusal (viewOutcome q)) × (0 ≡ numberIn (viewOutcome q))
+  unfolding viewOutcome isRefusal numberIn
+  held-is e = (rw e, rw e)
+
+  pub won-is : {k : ℕ} {x : Float} → q ≡ Outcomes.Won k x → (false ≡ isRefusal (viewOutcome q)) × (0 ≡ numberIn (viewOutcome q))
+  unfolding viewOutcome isRefusal numberIn
+  won-is e = (rw e, rw e)

@@ -1,0 +1,187 @@
+-- The trials of a run, one after the other: what is read up to place i, and what the run still comes to. Assumes nothing.
+use mathlib.Core.Path.{_≡_, refl, sym, ap, subst, _∙_}
+use mathlib.Core.Bool.{Bool, true, false}
+use mathlib.Core.List.{List, [], _∷_, map}
+use Prim.Native.Nat.{ℕ, zero, suc, _+_, _*_, _/_, _≤_, _<_}
+use native.Mathlib.Nat.{mul-zero, mul-suc, add-comm}
+use native.Mathlib.Numerals.{add-one}
+use native.Mathlib.Omega.{arith}
+use borrow.Author.Tests.{le-leb, lt-leb, ltb-false}
+use lib.Dec.{ltb, eqb}
+use lib.ListN.{length, getD, take, drop, length-map, List·getD-map, drop-of-length-le}
+use lib.Seq.{drop-cons, drop-drop}
+use lib.Ieee.{Float}
+use Rattle.rule.specs.Order.{firstFailed}
+use Rattle.rule.proofs.Tests.{neither}
+use Rattle.rule.proofs.Order.{first-passed}
+use Rattle.sheet.specs.Marks.{marksOf, marksTests}
+use Rattle.sheet.specs.declared.model.Model.{Model}
+use Rattle.book.specs.Score.{Judged}
+use Rattle.book.specs.Book.{Book, Entered, entered, hasEnded, called, fresh}
+use Rattle.book.specs.Calls.{tried, isRefusal, numberIn}
+use Rattle.book.specs.Rule.{Stopped, stopped, broken, runOver}
+use Rattle.book.proofs.Along.{Counts, counts-fresh, counts-next, tried-called, called-open}
+use Rattle.book.proofs.Runs.{run-out, run-late, run-on, run-broken}
+use Rattle.records.specs.Options.{thresh, confidence, iters, optionsTests}
+use Rattle.records.specs.declared.options.RansacOptions.{RansacOptions}
+use Rattle.judge.specs.Judging.{ruleOf, Call, judgeOf, judgeTested}
+use Rattle.pick.specs.Run.{Run, Answer, bookOf, viewState, viewOutcome, viewTried}
+use Rattle.pick.specs.Opening.{freshRun}
+use Rattle.pick.specs.Trial.{answerOf, triedWith, stepAnswer}
+use Rattle.pick.specs.declared.run_state.State.{State}
+use Rattle.pick.specs.declared.run_state.Tried.{Tried}
+use Rattle.pick.proofs.Order.{same-judged}
+use Rattle.salghemu.specs.Whole.{firstRecords, recordsIn, callWith, judgedIn, stopOf, viewRan}
+use Rattle.salghemu.specs.declared.Ran.the-variants as Ran
+
+-- ---- records of w bytes
+
+pub records-count : (w n : ℕ) (l : List ℕ) → length (firstRecords w n l) ≡ n
+unfolding firstRecords
+records-count w zero l = refl
+records-count w (suc n) l = ap suc (records-count w n (drop w l))
+
+pub record-at : (w n i : ℕ) (l : List ℕ) → i < n → getD (firstRecords w n l) i [] ≡ take w (drop (w * i) l)
+unfolding firstRecords
+record-at w zero i l h = absurd (omega (arith, h))
+record-at w (suc n) zero l h = rw (mul-zero w)
+record-at w (suc n) (suc i) l h =
+    record-at w n i (drop w l) (omega (arith, h)) ∙ ap (take w) (drop-drop (w * i) w l ∙ ap (λ k. drop k l) (add-comm w (w * i) ∙ sym (mul-suc w i)))
+
+-- max_iters is at most 100,000 where the options passed
+few-iters : (o : RansacOptions) → 0 ≡ firstFailed (optionsTests o) → o .«max_iters» ≤ 100000
+unfolding optionsTests thresh confidence iters
+few-iters o h =
+    let a = first-passed (thresh o) _ tt (sym h) in
+    let b = first-passed (confidence o) _ tt (a .1) in
+    let c = first-passed (iters o) [] tt (b .1) in
+    ltb-false 100000 (o .«max_iters») (neither (eqb (o .«max_iters») 0) (ltb 100000 (o .«max_iters»)) (c .0) .1)
+
+-- ---- a run over marks l and stop entries `table`
+
+module _ (o : RansacOptions) (l : List Float) (table trials : List ℕ) where
+  abbrev n : ℕ
+  n = length (marksOf l)
+
+  abbrev js : List (Judged Model)
+  js = judgedIn o n l table (recordsIn trials)
+
+  abbrev whole : Stopped Model
+  whole = stopOf o n l table (recordsIn trials)
+
+  abbrev judged : List ℕ → Judged Model
+  judged bytes = judgeOf o n (callWith l table bytes)
+
+  js-count : length js ≡ length trials / 152
+  unfolding judgedIn recordsIn
+  js-count = length-map (firstRecords 152 (length trials / 152) trials) judged ∙ records-count 152 (length trials / 152) trials
+
+  js-from : (i : ℕ) → i < length trials / 152 → drop i js ≡ judged (take 152 (drop (152 * i) trials)) ∷ drop (i + 1) js
+  unfolding judgedIn recordsIn
+  js-from i h =
+      drop-cons js i (judged []) (rw js-count h)
+      ∙ rw (List·getD-map judged (firstRecords 152 (length trials / 152) trials) i [], record-at 152 (length trials / 152) i trials h, add-one i)
+
+  pub record Going (i : ℕ) (s : State) : Type 0 where
+    pub options : s .options ≡ o
+    pub marks : s .n ≡ n
+    pub counts : Counts (ruleOf o) (bookOf s)
+    pub owed : runOver (ruleOf o) (bookOf s) (drop i js) ≡ whole
+
+  pub going-none : {k : ℕ} (s : State) → viewState s ≡ freshRun o k → k ≡ n → Going 0 s
+  unfolding viewState freshRun stopOf
+  going-none s e m =
+      let b : bookOf s ≡ fresh (ruleOf o) = ap (λ r. r .book) e in
+      record {
+        options = ap (λ r. r .options) e;
+        marks = ap (λ r. r .n) e ∙ m;
+        counts = rw b (counts-fresh (ruleOf o));
+        owed = ap (λ x. runOver (ruleOf o) x js) b;
+      }
+
+  module _ {i : ℕ} {s : State} (g : Going i s) where
+    pub going-late : s .bound ≤ s .read → viewRan (Ran.Stopped s) ≡ whole
+    unfolding viewRan hasEnded bookOf
+    going-late h = run-late (ruleOf o) (bookOf s) (le-leb (s .bound) (s .read) h) (drop i js) ∙ g .owed
+
+    pub going-out : length trials / 152 ≤ i → viewRan (Ran.Stopped s) ≡ whole
+    unfolding viewRan
+    going-out h = run-out (ruleOf o) (bookOf s) (drop i js) (let past : length js ≤ i = rw js-count h in drop-of-length-le js past) ∙ g .owed
+
+    module _ (valid : 0 ≡ firstFailed (optionsTests o)) (tested : 0 ≡ firstFailed (marksTests l)) (early : s .read < s .bound) (here : i < length trials / 152) where
+      abbrev bytes : List ℕ
+      bytes = take 152 (drop (152 * i) trials)
+
+      abbrev next : Entered Model
+      next = entered (ruleOf o) (bookOf s) (judged bytes)
+
+      still : hasEnded (bookOf s) ≡ false
+      unfolding hasEnded bookOf
+      still = lt-leb (s .bound) (s .read) early
+
+      called-is : called (ruleOf o) (bookOf s) (judged bytes) ≡ next
+      called-is = called-open (ruleOf o) (bookOf s) (judged bytes) still
+
+      abbrev call : Call
+      call = record { bytes = bytes; marks = l; stops = table }
+
+      tried-is : tried (ruleOf (s .options)) (bookOf s) (judgeTested (s .options) (s .n) call) ≡ next
+      unfolding callWith ruleOf
+      tried-is =
+          ap (λ (p : RansacOptions). tried (ruleOf p) (bookOf s) (judgeTested p (s .n) call)) (g .options)
+          ∙ ap (λ (k : ℕ). tried (ruleOf o) (bookOf s) (judgeTested o k call)) (g .marks)
+          ∙ ap (λ (j : Judged Model). tried (ruleOf o) (bookOf s) j) (same-judged o n call refl refl tested refl)
+          ∙ tried-called (ruleOf o) (few-iters o valid) (bookOf s) (judged bytes) (g .counts)
+          ∙ called-is
+
+      module _ (t : Tried) {w : ℕ} (step : viewTried t ≡ stepAnswer (viewState s) (record { bytes = take w (drop (152 * i) trials); marks = l; stops = table })) (wide : w ≡ 152) where
+        of-152 : viewTried t ≡ stepAnswer (viewState s) call
+        of-152 = step ∙ ap (λ (k : ℕ). stepAnswer (viewState s) (record { bytes = take k (drop (152 * i) trials); marks = l; stops = table })) wide
+
+        steps : viewTried t ≡ answerOf (viewState s) next
+        unfolding stepAnswer triedWith viewState
+        steps = of-152 ∙ ap (answerOf (viewState s)) tried-is
+
+        outcome-is : viewOutcome (t .outcome) ≡ next .answer
+        unfolding viewTried answerOf
+        outcome-is = ap (λ (a : Answer). a .outcome) steps
+
+        owed-is : runOver (ruleOf o) (bookOf s) (judged bytes ∷ drop (i + 1) js) ≡ whole
+        owed-is = ap (runOver (ruleOf o) (bookOf s)) (sym (js-from i here)) ∙ g .owed
+
+        module _ {b : Bool} (refused : b ≡ isRefusal (viewOutcome (t .outcome))) where
+          pub going-broken : b ≡ true → {k : ℕ} → k ≡ numberIn (viewOutcome (t .outcome)) → viewRan (Ran.Broken k) ≡ whole
+          unfolding viewRan
+          going-broken h e =
+              ap broken (e ∙ ap numberIn outcome-is)
+              ∙ run-broken (ruleOf o) (bookOf s) still (drop (i + 1) js) (judged bytes) (ap isRefusal (sym outcome-is) ∙ sym refused ∙ h)
+              ∙ owed-is
+
+          pub going-on : b ≡ false → Going (i + 1) (t .state)
+          unfolding viewTried viewState answerOf
+          going-on h =
+              let r = ap (λ (a : Answer). a .run) steps in
+              let book : bookOf (t .state) ≡ next .book = ap (λ (x : Run). x .book) r in
+              record {
+                options = ap (λ (x : Run). x .options) r ∙ g .options;
+                marks = ap (λ (x : Run). x .n) r ∙ g .marks;
+                counts = rw (book, ← called-is) (counts-next (ruleOf o) (bookOf s) (judged bytes) (g .counts));
+                owed =
+                    ap (λ (x : Book Model). runOver (ruleOf o) x (drop (i + 1) js)) book
+                    ∙ sym (run-on (ruleOf o) (bookOf s) still (drop (i + 1) js) (judged bytes) (ap isRefusal (sym outcome-is) ∙ sym refused ∙ h))
+                    ∙ owed-is;
+              }
+
+-- ---- a run that was opened with options o has these
+
+module _ (o : RansacOptions) (k : ℕ) (s₀ : State) (opened : viewState s₀ ≡ freshRun o k) where
+  own-options : s₀ .options ≡ o
+  unfolding viewState freshRun
+  own-options = ap (λ (r : Run). r .options) opened
+
+  module _ (l : List Float) (table trials : List ℕ) {i : ℕ} {s : State} where
+    pub going-own : Going (s₀ .options) l table trials i s → Going o l table trials i s
+    going-own g = subst (λ p. Going p l table trials i s) own-options g
+
+    pub going-back : Going o l table trials i s → Going (s₀ .options) l table trials i s
+    going-back g = subst (λ p. Going p l table trials i s) (sym own-options) g

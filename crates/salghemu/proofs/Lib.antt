@@ -1,0 +1,4 @@
+pub mod Going
+pub mod Later
+pub mod Giving
+pub mod Chain
