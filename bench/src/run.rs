@@ -84,12 +84,14 @@ fn case(every: usize, refit: bool) -> Case {
 ///
 /// A model is counted for each fit, and for the refit of each trial whose fit
 /// has marks enough. The Rust takes a root for each mark of each model
-/// counted. The proved side takes two for each, which show where the squares
-/// around the threshold lie, and one for each mark within it only where the
-/// model stands; two more for the winner's indices. Both take one for the rms
-/// of each trial that is scored.
+/// counted. The proved side walks over the marks for each model counted, for
+/// the rms of each model that stands and for the winner's indices. A walk
+/// takes two roots, which show where the squares around the threshold lie,
+/// and that for an rms one more for each mark within it (no mark here is so
+/// near the threshold as to need one besides). Both take one for the rms of
+/// each trial that is scored.
 fn roots(case: &Case) -> [usize; 2] {
-    let mut roots = [2, 0];
+    let (mut walks, mut roots) = (1, [0, 0]);
     for trial in &case.trials {
         let call = Call {
             record: &trial_record(trial),
@@ -100,15 +102,17 @@ fn roots(case: &Case) -> [usize; 2] {
         match judge(&case.options, MARKS as u64, &call) {
             Judged::Scored(scored) => {
                 models += usize::from(case.options.refit && trial.refit.is_some());
+                walks += 1;
                 roots[0] += scored.count as usize + 1;
                 roots[1] += 1;
             }
             Judged::Few(_) => {}
             other => panic!("neither good nor poor: {other:?}"),
         }
-        roots[0] += 2 * models;
+        walks += models;
         roots[1] += MARKS * models;
     }
+    roots[0] += 2 * walks;
     roots
 }
 

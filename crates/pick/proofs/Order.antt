@@ -180,3 +180,20 @@ module _ (o : RansacOptions) (l : List Float) (table : List ℕ) where
 
             pub open-passed : length table ≡ n + 1 → 0 ≡ firstFailed (openingTests o l table)
             open-passed h = right-entries l table marks h ∙ to-entries
+
+-- an accepted opening's max_iters is at most 100,000
+pub opened-iters : (o : RansacOptions) (l : List Float) (table : List ℕ) → firstFailed (openingTests o l table) ≡ 0 → o .«max_iters» ≤ 100000
+unfolding openingTests optionsTests thresh confidence iters
+opened-iters o l table h =
+    let a = first-passed (thresh o) _ tt h in
+    let b = first-passed (confidence o) _ tt (a .1) in
+    let c = first-passed (iters o) _ tt (b .1) in
+    ltb-false 100000 (o .«max_iters») (neither (eqb (o .«max_iters») 0) (ltb 100000 (o .«max_iters»)) (c .0) .1)
+
+-- the marks of a call that passed are short
+pub call-short : (n : ℕ) (c : Call) → firstFailed (callTests n c) ≡ 0 → length (c .marks) ≤ 8000
+unfolding callTests marksTests ofRun shape
+call-short n c h =
+    let a = first-passed (ofRun n (c .marks)) _ tt h in
+    let b = first-passed (shape (c .marks)) _ tt (a .1) in
+    ltb-false 8000 (length (c .marks)) (neither (not (eqb (length (c .marks) % 4) 0)) (ltb 8000 (length (c .marks))) (b .0) .1)

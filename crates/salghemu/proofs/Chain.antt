@@ -1,24 +1,22 @@
 -- The run's layers, from the trials up to the options' record: what each hands on to the next. Assumes nothing.
-use mathlib.Core.Path.{_≡_, refl, sym, ap, subst, _∙_}
+use mathlib.Core.Path.{_≡_, sym, ap, subst, _∙_}
 use mathlib.Core.Bool.{true, false}
-use mathlib.Core.List.{List, [], _∷_, _++_}
+use mathlib.Core.List.{List, [], _∷_}
 use Prim.Native.Nat.{ℕ, suc, _+_, _*_, _/_, _%_, _≤_, _<_}
 use native.Mathlib.Numerals.{add-one}
 use native.Mathlib.Omega.{arith}
 use borrow.Author.Tests.{eq-eqb, ne-eqb, lt-ltb, le-ltb}
 use lib.Dec.{T}
 use lib.ListN.{length, take, drop, length-append, length-drop}
-use lib.Seq.{take-at, length-take-le}
+use lib.Seq.{take-at}
 use lib.Ieee.{Float}
 use Rattle.rule.specs.Refusal.{SHAPE}
-use Rattle.rule.specs.Answer.{Answer, refused, gives}
 use Rattle.rule.specs.Order.{Test, firstFailed}
 use Rattle.rule.specs.Lists.{filled}
 use Rattle.rule.proofs.Order.{stops, passes, numbered, one-failed, all-passed, decided-gives, decided-refused}
 use Rattle.rule.proofs.Lists.{filled-is}
 use Rattle.sheet.specs.Marks.{marksOf}
 use Rattle.sheet.specs.declared.model.Model.{Model}
-use Rattle.book.specs.Book.{Winner}
 use Rattle.book.specs.Rule.{Stopped}
 use Rattle.fields.specs.Fields.{wordsOf}
 use Rattle.fields.proofs.Reading.{fields-count}
@@ -28,9 +26,8 @@ use Rattle.records.specs.declared.options.RansacOptions.{RansacOptions}
 use Rattle.records.specs.declared.options.OptionsRead.{OptionsRead}
 use Rattle.records.specs.declared.options.OptionsRead.the-variants as Read
 use Rattle.records.proofs.Whole.{numbers-length}
-use Rattle.salghemu.specs.Whole.{Files, markBytes, laterTests, orderOf, runTests, recordsIn, stopOf, resultOf, afterTests, laterAnswer, optionsAnswer, runAnswer, Gave, viewRan}
-use Rattle.salghemu.specs.declared.Ran.{Ran}
-use Rattle.salghemu.proofs.Giving.{gave-refused, gave-passed, gave-number}
+use Rattle.salghemu.specs.Whole.{Files, markBytes, laterTests, orderOf, runTests, recordsIn, stopOf, resultOf, afterTests, laterAnswer, optionsAnswer, runAnswer, Gave}
+use Rattle.salghemu.proofs.Giving.{gave-refused, gave-passed}
 
 -- ---- a local list that was filled
 

@@ -1,18 +1,17 @@
 -- What a run gives and writes, one law for each way out. Assumes nothing.
-use mathlib.Core.Path.{_≡_, refl, sym, ap, ap₂, _∙_}
-use mathlib.Core.Bool.{Bool, true, false}
-use mathlib.Core.List.{List, [], _∷_, _++_, append-assoc}
-use Prim.Native.Nat.{ℕ, zero, suc, _+_, _-_, _*_, _≤_, _<_}
+use mathlib.Core.Path.{_≡_, refl, sym, ap, _∙_}
+use mathlib.Core.Bool.{true, false}
+use mathlib.Core.List.{List, _∷_, _++_, append-assoc}
+use Prim.Native.Nat.{ℕ, zero, suc, _+_, _-_, _*_, _≤_}
 use native.Mathlib.Nat.{zero-add}
 use native.Mathlib.Omega.{arith}
 use borrow.Author.Tests.{le-ltb}
 use borrow.Rule.Slice.PartMut.{midOf, putMid}
-use lib.ListN.{length, take, drop, replicate, length-append, length-map}
+use lib.ListN.{length, take, drop, length-append}
 use lib.Seq.{take-at}
 use lib.Ieee.{Float}
 use Rattle.rule.specs.Refusal.{NONE}
-use Rattle.rule.specs.Answer.{Answer, refused, gives}
-use Rattle.rule.specs.Order.{Test, firstFailed}
+use Rattle.rule.specs.Answer.{Answer, refused}
 use Rattle.rule.specs.Lists.{forEach, replaced, filled}
 use Rattle.rule.proofs.Lists.{forEach-length, part-replaced, part-filled, replaced-length, replaced-twice, filled-is, filled-replaced, filled-whole, places-count}
 use Rattle.sheet.specs.Marks.{marksOf}
@@ -20,19 +19,17 @@ use Rattle.sheet.specs.Distance.{modelNumbers}
 use Rattle.sheet.specs.declared.model.Model.{Model}
 use Rattle.sheet.proofs.Places.{count}
 use Rattle.book.specs.Score.{close, countIn}
-use Rattle.book.specs.Book.{Winner, none, held}
-use Rattle.book.specs.Rule.{stopped, broken}
+use Rattle.book.specs.Book.{Winner}
+use Rattle.book.specs.Calls.{isRefusal, numberIn}
 use Rattle.book.proofs.Clear.{count-within}
 use Rattle.fields.specs.Fields.{bytesOf, doubleBytes}
-use Rattle.fields.proofs.Writing.{bytes-wide, word-wide, double-wide}
+use Rattle.fields.proofs.Writing.{word-wide, double-wide}
 use Rattle.score.specs.Distances.{distancesOf, indicesIn, cramped, indexed, indexCount}
 use Rattle.score.proofs.Walk.{ds-length}
-use Rattle.book.specs.Calls.{isRefusal, numberIn}
 use Rattle.pick.specs.Run.{viewWinner, viewBest, bookOf, viewOutcome}
 use Rattle.pick.specs.declared.run_state.Outcome.{Outcome}
 use Rattle.pick.specs.declared.run_state.Outcome.the-variants as Outcomes
 use Rattle.pick.specs.declared.run_state.Winner as State
-use Rattle.pick.specs.declared.run_state.Best.{Best}
 use Rattle.pick.specs.declared.run_state.Best.the-variants.{Nothing, Held}
 use Rattle.pick.specs.declared.run_state.State.{State}
 use Rattle.salghemu.specs.Whole.{afterTests, wonBy, resultOf, numberOf, winnerBytes, indexBytes, laidOver, written, Gave, viewRan}

@@ -1,7 +1,7 @@
 -- The trials of a run, one after the other: what is read up to place i, and what the run still comes to. Assumes nothing.
 use mathlib.Core.Path.{_≡_, refl, sym, ap, subst, _∙_}
 use mathlib.Core.Bool.{Bool, true, false}
-use mathlib.Core.List.{List, [], _∷_, map}
+use mathlib.Core.List.{List, [], _∷_}
 use Prim.Native.Nat.{ℕ, zero, suc, _+_, _*_, _/_, _≤_, _<_}
 use native.Mathlib.Nat.{mul-zero, mul-suc, add-comm}
 use native.Mathlib.Numerals.{add-one}
@@ -19,7 +19,7 @@ use Rattle.sheet.specs.declared.model.Model.{Model}
 use Rattle.book.specs.Score.{Judged}
 use Rattle.book.specs.Book.{Book, Entered, entered, hasEnded, called, fresh}
 use Rattle.book.specs.Calls.{tried, isRefusal, numberIn}
-use Rattle.book.specs.Rule.{Stopped, stopped, broken, runOver}
+use Rattle.book.specs.Rule.{Stopped, broken, runOver}
 use Rattle.book.proofs.Along.{Counts, counts-fresh, counts-next, tried-called, called-open}
 use Rattle.book.proofs.Runs.{run-out, run-late, run-on, run-broken}
 use Rattle.records.specs.Options.{thresh, confidence, iters, optionsTests}

@@ -1,7 +1,7 @@
 -- Document 01, 'Winner' and 'Refusals': the whole run over byte slices. The opening's order, a trial list length not a multiple of 152 as 1, 9, then trials,
 -- then 11. The trials are the book's, to the first refused, the bound or the end; those beyond aren't looked at.
 use mathlib.Core.Path.{_≡_}
-use mathlib.Core.Bool.{Bool, not, _||_}
+use mathlib.Core.Bool.{not, _||_}
 use mathlib.Core.List.{List, [], _∷_, _++_, map}
 use Prim.Native.Nat.{ℕ, zero, suc, _*_, _/_, _%_}
 use lib.Dec.{ltb, eqb}
@@ -22,10 +22,10 @@ use Rattle.records.specs.Options.{optionsRecord, optionsOf, optionsTests}
 use Rattle.records.specs.Marks.{numbersIn}
 use Rattle.records.specs.declared.options.RansacOptions.{RansacOptions}
 use Rattle.score.specs.Distances.{distancesOf, indicesIn}
+use Rattle.judge.specs.Judging.{ruleOf, Call, judgeOf}
 use Rattle.pick.specs.Run.{bookOf}
 use Rattle.salghemu.specs.declared.Ran.{Ran}
 use Rattle.salghemu.specs.declared.Ran.the-variants as Ran
-use Rattle.judge.specs.Judging.{ruleOf, Call, judgeOf}
 
 -- what is handed in: bytes, and the lengths of what is lent
 pub record Files : Type 0 where

@@ -52,7 +52,7 @@ module _ (thresh : Float) (l : List Float) (h : Model) where
   unfolding distancesOf
   ds-length = length-map (marksOf l) (distanceOf h)
 
-  ds-at : (i : ℕ) → getD ds i far ≡ distanceOf h (markAt l i)
+  pub ds-at : (i : ℕ) → getD ds i far ≡ distanceOf h (markAt l i)
   unfolding distancesOf markAt
   ds-at i = List·getD-map (distanceOf h) (marksOf l) i noMark
 

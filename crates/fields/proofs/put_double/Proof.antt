@@ -1,25 +1,18 @@
-use Rattle.fields.specs.Fields.{doubleBytes}
+-- `fields::put_double` meets its contract. Assumes nothing.
 use borrow.Author.Needs.{needs}
+use Rattle.fields.specs.Fields.{doubleBytes}
 use Rattle.fields.proofs.put_double.Statement.{statement}
 use Rattle.fields.proofs.put_double.Tie as tie
-use Rattle.fields.proofs.put_double.Reads as reads
-use Rattle.fields.proofs.put_double.Lts as lts
-use Rattle.fields.proofs.bits_of.Reads as bits-of-reads
-use Rattle.fields.proofs.put_long.Reads as put-long-reads
 
--- src/lib.rt:158:20
 bits-of-requires : tie.Need-bits-of-requires
 bits-of-requires c κs = search needs
 
--- src/lib.rt:158:5
 put-long-requires : tie.Need-put-long-requires
 put-long-requires c κs = search needs
 
--- src/lib.rt:155:1
 same-length : tie.Need-same-length
 same-length c = search needs
 
--- src/lib.rt:155:1
 returns : tie.Need-returns
 unfolding doubleBytes
 returns c = rw (← c .before .before .before .bits-of .ensures) (c .before .before .put-long .ensures)

@@ -1,58 +1,43 @@
+-- `salghemu::check_later` meets its contract. Assumes nothing.
 use native.Mathlib.Omega.{arith}
-use Rattle.salghemu.proofs.Later.{later-point, later-few, later-stops, later-trials, later-winner, later-indices, later-passed, small-marks}
 use borrow.Author.Needs.{needs}
+use Rattle.salghemu.proofs.Later.{later-point, later-few, later-stops, later-trials, later-winner, later-indices, later-passed, small-marks}
 use Rattle.salghemu.proofs.check_later.Statement.{statement}
 use Rattle.salghemu.proofs.check_later.Tie as tie
-use Rattle.salghemu.proofs.check_later.Reads as reads
-use Rattle.salghemu.proofs.check_later.Lts as lts
-use Rattle.sheet.proofs.check_marks.Reads as check-marks-reads
-use Rattle.sheet.proofs.mark_count.Reads as mark-count-reads
 
--- src/lib.rt:113:9
 check-marks-requires : tie.Need-check-marks-requires
 check-marks-requires c κs = search needs
 
--- src/lib.rt:115:9
 returns : tie.Need-returns
 returns c = later-point _ (c .before .before .before .pre .0) (c .before .before .before .pre .1) _ _ _ _ (c .before .check-marks .ensures) (c .if1 .taken)
 
--- src/lib.rt:117:9
 mark-count-requires : tie.Need-mark-count-requires
 mark-count-requires c κs = search needs
 
--- src/lib.rt:119:9
 returns-2 : tie.Need-returns-2
 returns-2 c = later-few _ (c .before .before .before .before .before .pre .0) (c .before .before .before .before .before .pre .1) _ _ _ _ (c .before .before .before .check-marks .ensures) (c .before .before .if1 .left) (c .before .mark-count .ensures) (c .if2 .taken)
 
--- src/lib.rt:121:22
 add-if3 : tie.Need-add-if3
 add-if3 c = let s = small-marks _ (c .before .before .before .before .before .pre .1) (c .before .mark-count .ensures) in omega (arith, s)
 
--- src/lib.rt:121:17
 mul-if3 : tie.Need-mul-if3
 mul-if3 c = let s = small-marks _ (c .before .before .before .before .before .pre .1) (c .before .mark-count .ensures) in omega (arith, s)
 
--- src/lib.rt:122:9
 returns-3 : tie.Need-returns-3
 returns-3 c = later-stops _ (c .before .before .before .before .before .before .pre .0) (c .before .before .before .before .before .before .pre .1) _ _ _ _ (c .before .before .before .before .check-marks .ensures) (c .before .before .before .if1 .left) (c .before .before .mark-count .ensures) (c .before .if2 .left) (c .if3 .taken)
 
--- src/lib.rt:125:9
 returns-4 : tie.Need-returns-4
 returns-4 c = later-trials _ (c .before .before .before .before .before .before .before .pre .0) (c .before .before .before .before .before .before .before .pre .1) _ _ _ _ (c .before .before .before .before .before .check-marks .ensures) (c .before .before .before .before .if1 .left) (c .before .before .before .mark-count .ensures) (c .before .before .if2 .left) (c .before .if3 .left) (c .if4 .taken)
 
--- src/lib.rt:128:9
 returns-5 : tie.Need-returns-5
 returns-5 c = later-winner _ (c .before .before .before .before .before .before .before .before .pre .0) (c .before .before .before .before .before .before .before .before .pre .1) _ _ _ _ (c .before .before .before .before .before .before .check-marks .ensures) (c .before .before .before .before .before .if1 .left) (c .before .before .before .before .mark-count .ensures) (c .before .before .before .if2 .left) (c .before .before .if3 .left) (c .before .if4 .left) (c .if5 .taken)
 
--- src/lib.rt:130:18
 mul-if6 : tie.Need-mul-if6
 mul-if6 c = search needs
 
--- src/lib.rt:131:9
 returns-6 : tie.Need-returns-6
 returns-6 c = later-indices _ (c .before .before .before .before .before .before .before .before .before .pre .0) (c .before .before .before .before .before .before .before .before .before .pre .1) _ _ _ _ (c .before .before .before .before .before .before .before .check-marks .ensures) (c .before .before .before .before .before .before .if1 .left) (c .before .before .before .before .before .mark-count .ensures) (c .before .before .before .before .if2 .left) (c .before .before .before .if3 .left) (c .before .before .if4 .left) (c .before .if5 .left) (c .if6 .taken)
 
--- src/lib.rt:108:1
 returns-7 : tie.Need-returns-7
 returns-7 c = later-passed _ (c .before .before .before .before .before .before .before .before .before .pre .0) (c .before .before .before .before .before .before .before .before .before .pre .1) _ _ _ _ (c .before .before .before .before .before .before .before .check-marks .ensures) (c .before .before .before .before .before .before .if1 .left) (c .before .before .before .before .before .mark-count .ensures) (c .before .before .before .before .if2 .left) (c .before .before .before .if3 .left) (c .before .before .if4 .left) (c .before .if5 .left) (c .if6 .left)
 

@@ -1,42 +1,31 @@
+-- `salghemu::give` meets its contract. Assumes nothing.
+use borrow.Author.Needs.{needs}
 use Rattle.pick.specs.Run.{viewWinner}
 use Rattle.salghemu.proofs.Giving.{winner-laid}
-use borrow.Author.Needs.{needs}
 use Rattle.salghemu.proofs.give.Statement.{statement}
 use Rattle.salghemu.proofs.give.Tie as tie
-use Rattle.salghemu.proofs.give.Reads as reads
-use Rattle.salghemu.proofs.give.Lts as lts
-use Rattle.salghemu.proofs.put_indices.Reads as put-indices-reads
-use Rattle.salghemu.proofs.put_winner.Reads as put-winner-reads
 
--- src/lib.rt:144:16
 sub-put-winner : tie.Need-sub-put-winner
 sub-put-winner c = search needs
 
--- src/lib.rt:144:16
 part-put-winner-start : tie.Need-part-put-winner-start
 part-put-winner-start c = search needs
 
--- src/lib.rt:144:16
 part-put-winner-end : tie.Need-part-put-winner-end
 part-put-winner-end c = search needs
 
--- src/lib.rt:144:5
 put-winner-requires : tie.Need-put-winner-requires
 put-winner-requires c κs = search needs
 
--- src/lib.rt:146:5
 put-indices-requires : tie.Need-put-indices-requires
 put-indices-requires c κs = search needs
 
--- src/lib.rt:137:1
 same-length : tie.Need-same-length
 same-length c = search needs
 
--- src/lib.rt:137:1
 same-length-2 : tie.Need-same-length-2
 same-length-2 c = search needs
 
--- src/lib.rt:137:1
 returns : tie.Need-returns
 returns c = (winner-laid (viewWinner _) _ (c .before .before .before .before .before .before .before .put-winner .ensures), c .before .before .put-indices .ensures)
 

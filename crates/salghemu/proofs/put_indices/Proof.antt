@@ -1,40 +1,30 @@
+-- `salghemu::put_indices` meets its contract. Assumes nothing.
 use mathlib.Core.Path.{refl, sym}
 use mathlib.Core.List.{[]}
+use borrow.Author.Needs.{needs}
 use lib.Seq.{length-take-le}
 use Rattle.salghemu.proofs.Giving.{inside, indices-laid}
-use borrow.Author.Needs.{needs}
 use Rattle.salghemu.proofs.put_indices.Statement.{statement}
 use Rattle.salghemu.proofs.put_indices.Tie as tie
-use Rattle.salghemu.proofs.put_indices.Reads as reads
-use Rattle.salghemu.proofs.put_indices.Lts as lts
-use Rattle.fields.proofs.write_words.Reads as write-words-reads
-use Rattle.score.proofs.write_inliers.Reads as write-inliers-reads
 
--- src/lib.rt:102:56
 slice-aggregate-write-inliers : tie.Need-slice-aggregate-write-inliers
 slice-aggregate-write-inliers c = search needs
 
--- src/lib.rt:102:9
 write-inliers-requires : tie.Need-write-inliers-requires
 write-inliers-requires c κs = search needs
 
--- src/lib.rt:103:25
 array-share-prefix-places : tie.Need-array-share-prefix-places
 array-share-prefix-places c = inside _ _ _ [] (c .before .before .before .before .before .pre .0) _ refl (c .before .write-inliers .ensures .0) (c .before .write-inliers .ensures .1)
 
--- src/lib.rt:103:25
 slice-aggregate-write-words : tie.Need-slice-aggregate-write-words
 slice-aggregate-write-words c = sym (length-take-le _ _ (inside _ _ _ [] (c .before .before .before .before .before .before .pre .0) _ refl (c .before .before .write-inliers .ensures .0) (c .before .before .write-inliers .ensures .1)))
 
--- src/lib.rt:103:5
 write-words-requires : tie.Need-write-words-requires
 write-words-requires c κs = search needs
 
--- src/lib.rt:96:1
 same-length : tie.Need-same-length
 same-length c = search needs
 
--- src/lib.rt:96:1
 returns : tie.Need-returns
 returns c = indices-laid _ _ _ _ (c .before .before .before .before .before .before .before .before .before .before .pre .0) _ refl (c .before .before .before .before .before .before .write-inliers .ensures .0) (c .before .before .before .before .before .before .write-inliers .ensures .1) (c .before .before .before .before .before .before .before .before .before .before .pre .1) (c .before .before .write-words .ensures)
 

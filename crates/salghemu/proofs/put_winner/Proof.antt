@@ -1,71 +1,53 @@
+-- `salghemu::put_winner` meets its contract. Assumes nothing.
+use borrow.Author.Needs.{needs}
 use Rattle.sheet.specs.Distance.{modelNumbers}
 use Rattle.pick.specs.Run.{viewWinner}
 use Rattle.salghemu.proofs.Giving.{winner-put}
-use borrow.Author.Needs.{needs}
 use Rattle.salghemu.proofs.put_winner.Statement.{statement}
 use Rattle.salghemu.proofs.put_winner.Tie as tie
-use Rattle.salghemu.proofs.put_winner.Reads as reads
-use Rattle.salghemu.proofs.put_winner.Lts as lts
-use Rattle.fields.proofs.put_word.Reads as put-word-reads
-use Rattle.fields.proofs.write_doubles.Reads as write-doubles-reads
 
--- src/lib.rt:90:22
 sub-put-word : tie.Need-sub-put-word
 sub-put-word c = search needs
 
--- src/lib.rt:90:22
 part-put-word-start : tie.Need-part-put-word-start
 part-put-word-start c = search needs
 
--- src/lib.rt:90:22
 part-put-word-end : tie.Need-part-put-word-end
 part-put-word-end c = search needs
 
--- src/lib.rt:90:5
 put-word-requires : tie.Need-put-word-requires
 put-word-requires c κs = search needs
 
--- src/lib.rt:91:22
 sub-put-word-2 : tie.Need-sub-put-word-2
 sub-put-word-2 c = search needs
 
--- src/lib.rt:91:22
 part-put-word-start-2 : tie.Need-part-put-word-start-2
 part-put-word-start-2 c = search needs
 
--- src/lib.rt:91:22
 part-put-word-end-2 : tie.Need-part-put-word-end-2
 part-put-word-end-2 c = search needs
 
--- src/lib.rt:91:5
 put-word-requires-2 : tie.Need-put-word-requires-2
 put-word-requires-2 c κs = search needs
 
--- src/lib.rt:92:27
 slice-aggregate-write-doubles : tie.Need-slice-aggregate-write-doubles
 slice-aggregate-write-doubles c = search needs
 
--- src/lib.rt:92:37
 sub-write-doubles : tie.Need-sub-write-doubles
 sub-write-doubles c = search needs
 
--- src/lib.rt:92:37
 part-write-doubles-start : tie.Need-part-write-doubles-start
 part-write-doubles-start c = search needs
 
--- src/lib.rt:92:37
 part-write-doubles-end : tie.Need-part-write-doubles-end
 part-write-doubles-end c = search needs
 
--- src/lib.rt:92:5
 write-doubles-requires : tie.Need-write-doubles-requires
 write-doubles-requires c κs = search needs
 
--- src/lib.rt:84:1
 same-length : tie.Need-same-length
 same-length c = search needs
 
--- src/lib.rt:84:1
 returns : tie.Need-returns
 unfolding viewWinner modelNumbers
 returns c = winner-put (viewWinner (c .before .before .before .before .before .before .before .before .before .before .before .before .before .before .before .args .w)) (c .before .before .before .before .before .before .before .before .before .before .before .before .before .before .before .args .part .now) (c .before .before .before .before .before .before .before .before .before .before .before .before .before .before .before .pre) (c .before .before .before .before .before .before .before .before .before .before .before .put-word .ensures) (c .before .before .before .before .before .before .before .put-word2 .ensures) (c .before .before .write-doubles .ensures)

@@ -1,71 +1,52 @@
+-- `salghemu::run_numbers` meets its contract. Assumes nothing.
 use mathlib.Core.Path.{refl, sym, _∙_}
 use native.Mathlib.Omega.{arith}
+use borrow.Author.Needs.{needs}
 use lib.Seq.{length-take-le}
 use Rattle.salghemu.proofs.Later.{small-marks, all-passed-is}
 use Rattle.salghemu.proofs.Chain.{entries-inside, entries-are, later-refused, later-given}
-use borrow.Author.Needs.{needs}
 use Rattle.salghemu.proofs.run_numbers.Statement.{statement}
 use Rattle.salghemu.proofs.run_numbers.Tie as tie
-use Rattle.salghemu.proofs.run_numbers.Reads as reads
-use Rattle.salghemu.proofs.run_numbers.Lts as lts
-use Rattle.fields.proofs.read_words.Reads as read-words-reads
-use Rattle.salghemu.proofs.check_later.Reads as check-later-reads
-use Rattle.salghemu.proofs.finish.Reads as finish-reads
-use Rattle.salghemu.proofs.read_trials.Reads as read-trials-reads
-use Rattle.sheet.proofs.mark_count.Reads as mark-count-reads
 
--- src/lib.rt:186:9
 check-later-requires : tie.Need-check-later-requires
 check-later-requires c κs = search needs
 
--- src/lib.rt:194:9
 returns : tie.Need-returns
 returns c = later-refused _ _ _ _ _ _ (c .before .check-later .ensures) (c .if1 .taken)
 
--- src/lib.rt:197:31
 slice-aggregate-read-words : tie.Need-slice-aggregate-read-words
 slice-aggregate-read-words c = search needs
 
--- src/lib.rt:197:5
 read-words-requires : tie.Need-read-words-requires
 read-words-requires c κs = search needs
 
--- src/lib.rt:198:9
 mark-count-requires : tie.Need-mark-count-requires
 mark-count-requires c κs = search needs
 
--- src/lib.rt:199:50
 add-entries : tie.Need-add-entries
 add-entries c =
     let s = (small-marks _ (c .before .before .before .before .before .before .before .before .before .before .before .pre .1 .1) (c .mark-count .ensures)) in omega (arith, s)
 
--- src/lib.rt:199:39
 array-share-prefix-entries : tie.Need-array-share-prefix-entries
 array-share-prefix-entries c =
     entries-inside _ _ _ refl (c .before .before .read-words .ensures) (small-marks _ (c .before .before .before .before .before .before .before .before .before .before .before .pre .1 .1) refl) ((all-passed-is _ (c .before .before .before .before .before .before .before .before .before .before .before .pre .1 .0) (c .before .before .before .before .before .before .before .before .before .before .before .pre .1 .1) _ _ _ _ (sym (c .before .before .before .before .before .check-later .ensures) ∙ c .before .before .before .before .if1 .left)) .entries) (c .mark-count .ensures)
 
--- src/lib.rt:199:39
 slice-aggregate-read-trials : tie.Need-slice-aggregate-read-trials
 slice-aggregate-read-trials c =
     sym (length-take-le _ _ (entries-inside _ _ _ refl (c .before .before .before .read-words .ensures) (small-marks _ (c .before .before .before .before .before .before .before .before .before .before .before .before .pre .1 .1) refl) ((all-passed-is _ (c .before .before .before .before .before .before .before .before .before .before .before .before .pre .1 .0) (c .before .before .before .before .before .before .before .before .before .before .before .before .pre .1 .1) _ _ _ _ (sym (c .before .before .before .before .before .before .check-later .ensures) ∙ c .before .before .before .before .before .if1 .left)) .entries) (c .before .mark-count .ensures)))
 
--- src/lib.rt:199:9
 read-trials-requires : tie.Need-read-trials-requires
 read-trials-requires c κs = (c .before .before .before .before .before .before .before .before .before .before .before .before .pre .0, (all-passed-is _ (c .before .before .before .before .before .before .before .before .before .before .before .before .pre .1 .0) (c .before .before .before .before .before .before .before .before .before .before .before .before .pre .1 .1) _ _ _ _ (sym (c .before .before .before .before .before .before .check-later .ensures) ∙ c .before .before .before .before .before .if1 .left)) .marks-pass)
 
--- src/lib.rt:200:5
 finish-requires : tie.Need-finish-requires
 finish-requires c κs = (c .before .before .before .before .before .before .before .before .before .before .before .before .before .before .before .pre .1 .1, ((all-passed-is _ (c .before .before .before .before .before .before .before .before .before .before .before .before .before .before .before .pre .1 .0) (c .before .before .before .before .before .before .before .before .before .before .before .before .before .before .before .pre .1 .1) _ _ _ _ (sym (c .before .before .before .before .before .before .before .before .before .check-later .ensures) ∙ c .before .before .before .before .before .before .before .before .if1 .left)) .winner-room, (all-passed-is _ (c .before .before .before .before .before .before .before .before .before .before .before .before .before .before .before .pre .1 .0) (c .before .before .before .before .before .before .before .before .before .before .before .before .before .before .before .pre .1 .1) _ _ _ _ (sym (c .before .before .before .before .before .before .before .before .before .check-later .ensures) ∙ c .before .before .before .before .before .before .before .before .if1 .left)) .index-room))
 
--- src/lib.rt:173:1
 same-length : tie.Need-same-length
 same-length c = search needs
 
--- src/lib.rt:173:1
 same-length-2 : tie.Need-same-length-2
 same-length-2 c = search needs
 
--- src/lib.rt:173:1
 returns-2 : tie.Need-returns-2
 returns-2 c =
     later-given _ _ _ _ _ _ (c .before .before .before .before .before .before .before .before .before .before .before .before .before .before .check-later .ensures) (c .before .before .before .before .before .before .before .before .before .before .before .before .before .if1 .left) (entries-are _ _ _ refl (c .before .before .before .before .before .before .before .before .before .before .before .read-words .ensures) (small-marks _ (c .before .before .before .before .before .before .before .before .before .before .before .before .before .before .before .before .before .before .before .before .pre .1 .1) refl) ((all-passed-is _ (c .before .before .before .before .before .before .before .before .before .before .before .before .before .before .before .before .before .before .before .before .pre .1 .0) (c .before .before .before .before .before .before .before .before .before .before .before .before .before .before .before .before .before .before .before .before .pre .1 .1) _ _ _ _ (sym (c .before .before .before .before .before .before .before .before .before .before .before .before .before .before .check-later .ensures) ∙ c .before .before .before .before .before .before .before .before .before .before .before .before .before .if1 .left)) .entries) (c .before .before .before .before .before .before .before .before .before .mark-count .ensures)) (c .before .before .before .before .before .before .before .read-trials .ensures) (c .before .before .before .before .finish .ensures)

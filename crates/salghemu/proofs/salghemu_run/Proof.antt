@@ -1,41 +1,30 @@
-use Rattle.salghemu.proofs.Chain.{record-refused, record-given}
+-- `salghemu::salghemu_run` meets its contract. Assumes nothing.
 use borrow.Author.Needs.{needs}
+use Rattle.salghemu.proofs.Chain.{record-refused, record-given}
 use Rattle.salghemu.proofs.salghemu_run.Statement.{statement}
 use Rattle.salghemu.proofs.salghemu_run.Tie as tie
-use Rattle.salghemu.proofs.salghemu_run.Reads as reads
-use Rattle.salghemu.proofs.salghemu_run.Lts as lts
-use Rattle.records.proofs.read_options.Reads as read-options-reads
-use Rattle.salghemu.proofs.run_options.Reads as run-options-reads
 
--- src/lib.rt:242:11
 read-options-requires : tie.Need-read-options-requires
 read-options-requires c κs = search needs
 
--- src/lib.rt:243:30
 enum-known-k : tie.Need-enum-known-k
 enum-known-k c = search needs
 
--- src/lib.rt:244:30
 enum-known-o : tie.Need-enum-known-o
 enum-known-o c = search needs
 
--- src/lib.rt:244:36
 run-options-requires : tie.Need-run-options-requires
 run-options-requires c κs = search needs
 
--- src/lib.rt:231:1
 returns : tie.Need-returns
 returns c = record-refused _ _ _ (c .before .before .before .read-options .ensures) (c .before .k .given .1)
 
--- src/lib.rt:231:1
 same-length : tie.Need-same-length
 same-length c = search needs
 
--- src/lib.rt:231:1
 same-length-2 : tie.Need-same-length-2
 same-length-2 c = search needs
 
--- src/lib.rt:231:1
 returns-2 : tie.Need-returns-2
 returns-2 c = record-given _ _ _ (c .before .before .before .before .before .before .before .before .before .before .read-options .ensures) (c .before .before .before .before .before .before .before .before .o .given .1) (c .before .before .before .before .run-options .ensures)
 

@@ -1,0 +1,4 @@
+pub mod Placed
+pub mod Listed
+pub mod Whole
+pub mod Demanded
