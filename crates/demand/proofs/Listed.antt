@@ -78,8 +78,8 @@ module _ (o : RansacOptions) (marks : List Float) (stops : List ℕ) (s₀ : Sta
   step s t c x of e = (
     (ap (λ (a : Answer). a .run .options) e ∙ of .0, ap (λ (a : Answer). a .run .n) e ∙ of .1),
     ap (λ (a : Answer). entered-of a) e
-    ∙ ap (λ (p : RansacOptions). tried (ruleOf p) (bookOf s) (judgeOf p (s .n) c)) (of .0)
-    ∙ ap (λ (k : ℕ). tried (ruleOf o) (bookOf s) (judgeOf o k c)) (of .1),
+        ∙ ap (λ (p : RansacOptions). tried (ruleOf p) (bookOf s) (judgeOf p (s .n) c)) (of .0)
+        ∙ ap (λ (k : ℕ). tried (ruleOf o) (bookOf s) (judgeOf o k c)) (of .1),
   )
 
   small : ruleOf o .most ≤ 100000

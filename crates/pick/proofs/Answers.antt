@@ -1,6 +1,6 @@
 -- The opening's and the indices' answers, one law for each way out. Assumes nothing.
 use mathlib.Core.Path.{_≡_, refl, sym, ap, _∙_}
-use mathlib.Core.Bool.{Bool, true, false, not, _||_}
+use mathlib.Core.Bool.{false, not}
 use mathlib.Core.List.{List, [], _∷_, _++_}
 use Prim.Native.Nat.{ℕ, _%_, _≤_}
 use native.Mathlib.Omega.{arith}
@@ -9,11 +9,12 @@ use lib.Dec.{T, ltb, eqb}
 use lib.ListN.{length, drop}
 use lib.Ieee.{Float}
 use Rattle.rule.specs.Refusal.{NONE}
-use Rattle.rule.specs.Answer.{refused, gives}
-use Rattle.rule.specs.Order.{Test, firstFailed, decided, ifPassed, room}
+use Rattle.rule.specs.Answer.{Answer, refused, gives}
+use Rattle.rule.specs.Order.{firstFailed, decided, room}
 use Rattle.rule.proofs.Tests.{neither}
 use Rattle.rule.proofs.Order.{first-passed, numbered, one-failed, all-passed, decided-none, decided-some, decided-gives, decided-refused, done, kept}
 use Rattle.rule.proofs.Lists.{places-count}
+use Rattle.numbers.specs.Constants.{zero′}
 use Rattle.sheet.specs.Marks.{marksOf, shape, point, few, marksTests}
 use Rattle.sheet.specs.declared.model.Model.{Model}
 use Rattle.sheet.proofs.Places.{count}
@@ -30,7 +31,6 @@ use Rattle.pick.specs.Run.{viewBest, viewWinner, bookOf, viewState}
 use Rattle.pick.specs.Opening.{openingTests, freshRun, openingAnswer, recordAnswer, viewOpened}
 use Rattle.pick.specs.Indices.{marksOrder, underAnswer, underAfter, winnerAnswer, winnerAfter, indicesAnswer, indicesAfter, viewIndexed}
 use Rattle.pick.specs.declared.run_state.Winner.{Winner}
-use Rattle.pick.specs.declared.run_state.Best.{Best}
 use Rattle.pick.specs.declared.run_state.Best.the-variants.{Nothing, Held}
 use Rattle.pick.specs.declared.run_state.State.{State}
 use Rattle.pick.specs.declared.opening.Opened.{Opened}
@@ -84,7 +84,7 @@ roomy n h l entry e =
     let f = first-passed (room (length (marksOf l)) (length entry)) [] tt (d .1) in
     let short : length l ≤ 8000 = ltb-false 8000 (length l) (neither (not (eqb (length l % 4) 0)) (ltb 8000 (length l)) (b .0) .1) in
     let place : length (marksOf l) ≤ length entry = ltb-false (length entry) (length (marksOf l)) (f .0) in
-    let many = ds-length Rattle.numbers.specs.Constants.zero′ l h in
+    let many = ds-length zero′ l h in
     let quarter = count l in
     rw (le-ltb (length entry) (length (distancesOf l h)) (omega (arith, many, place)), le-ltb 2000 (length (distancesOf l h)) (omega (arith, many, quarter, short)))
 
@@ -111,7 +111,7 @@ module _ (s : State) (l : List Float) (entry : List ℕ) where
   unfolding viewIndexed indicesAnswer indicesAfter viewState bookOf winnerAnswer winnerAfter viewBest
   no-winner e = (rw e, rw e)
 
-  pub a-winner : {w : Winner} → s .winner ≡ Held w → {answer : Rattle.rule.specs.Answer.Answer ℕ} {after : List ℕ}
+  pub a-winner : {w : Winner} → s .winner ≡ Held w → {answer : Answer ℕ} {after : List ℕ}
       → answer ≡ underAnswer (s .n) (s .options .thresh) (w .model) l entry → after ≡ underAfter (s .n) (s .options .thresh) (w .model) l entry
       → (answer ≡ indicesAnswer (viewState s) l entry) × (after ≡ indicesAfter (viewState s) l entry)
   unfolding indicesAnswer indicesAfter viewState bookOf winnerAnswer winnerAfter viewBest viewWinner

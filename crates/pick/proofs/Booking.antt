@@ -1,23 +1,22 @@
 -- What the book makes of a judged trial, on a state: one law for each way out. Assumes nothing.
-use mathlib.Core.Path.{_≡_, refl, sym, ap, ap₂, _∙_}
-use mathlib.Core.Bool.{Bool, true, false, cond}
+use mathlib.Core.Path.{_≡_, refl, _∙_}
+use mathlib.Core.Bool.{Bool, true, false}
 use Prim.Native.Nat.{ℕ, _+_, _≤_, _<_}
 use native.Mathlib.Numerals.{add-one}
 use borrow.Author.Tests.{le-leb, lt-leb, lt-ltb, le-ltb, eq-eqb, ne-eqb, leb-false, ltb-false}
 use lib.Dec.{leb, ltb}
-use lib.Ieee.{Float, lt}
+use lib.Ieee.{lt}
 use Rattle.rule.specs.Refusal.{ENDED}
-use Rattle.rule.proofs.Tests.{or-true, neither}
+use Rattle.rule.proofs.Tests.{neither}
 use Rattle.sheet.specs.declared.model.Model.{Model}
 use Rattle.book.specs.Score.{Judged, turned-down, scored}
 use Rattle.book.specs.Book.{held, is-refused, beats, winnerAfter, scoredAnswer, raised, lowered, hasEnded, entered}
 use Rattle.book.specs.Calls.{isClosed, tried}
-use Rattle.records.specs.declared.options.RansacOptions.{RansacOptions}
 use Rattle.judge.specs.Judging.{ruleOf, standingOf, viewVerdict}
 use Rattle.judge.specs.declared.Standing.{Standing}
 use Rattle.judge.specs.declared.Verdict.{Verdict}
 use Rattle.judge.specs.declared.Verdict.the-variants as Verdicts
-use Rattle.pick.specs.Run.{Run, Answer, viewWinner, viewBest, bookOf, viewState, viewOutcome, viewTried}
+use Rattle.pick.specs.Run.{viewWinner, viewBest, bookOf, viewState, viewOutcome, viewTried}
 use Rattle.pick.specs.Trial.{answerOf, triedWith}
 use Rattle.pick.specs.declared.run_state.Winner.{Winner}
 use Rattle.pick.specs.declared.run_state.Best.{Best}

@@ -1,3 +1,4 @@
 pub mod Booking
 pub mod Order
 pub mod Answers
+pub mod View

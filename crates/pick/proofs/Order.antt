@@ -12,12 +12,11 @@ use lib.Ieee.{Float}
 use Rattle.rule.specs.Refusal.{SHAPE, FEW, STOPS, ROOM}
 use Rattle.rule.specs.Order.{Test, firstFailed, ifPassed, room}
 use Rattle.rule.proofs.Tests.{neither}
-use Rattle.rule.proofs.Order.{stops, passes, first-passed, numbered, one-failed, all-passed, too-small, large-enough, kept, done}
+use Rattle.rule.proofs.Order.{stops, passes, first-passed, numbered, one-failed, all-passed, too-small, large-enough, kept}
 use Rattle.sheet.specs.Marks.{marksOf, shape, few, marksTests}
 use Rattle.sheet.proofs.Places.{count}
 use Rattle.sheet.proofs.Refused.{marks-failed, marks-passed}
-use Rattle.sheet.specs.declared.model.Model.{Model}
-use Rattle.book.specs.Score.{Judged, turned-down}
+use Rattle.book.specs.Score.{turned-down}
 use Rattle.records.specs.Options.{thresh, confidence, iters, optionsTests}
 use Rattle.records.specs.Trial.{trialRecord}
 use Rattle.records.specs.declared.options.RansacOptions.{RansacOptions}

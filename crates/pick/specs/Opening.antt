@@ -5,7 +5,7 @@ use lib.ListN.{length}
 use lib.Ieee.{Float}
 use Rattle.rule.specs.Answer.{Answer, refused, gives}
 use Rattle.rule.specs.Order.{Test, firstFailed, decided}
-use Rattle.sheet.specs.Marks.{marksOf, shape, point, few, marksTests}
+use Rattle.sheet.specs.Marks.{marksOf, few, marksTests}
 use Rattle.book.specs.Book.{fresh}
 use Rattle.records.specs.Options.{optionsRecord, optionsOf, optionsTests}
 use Rattle.records.specs.declared.options.RansacOptions.{RansacOptions}

@@ -1,18 +1,20 @@
 -- The starred cases of document 01, each by computing its definitions. Assumes nothing.
 use mathlib.Core.Path.{refl}
 use lib.Count.{leadingZeros}
-use lib.Ieee.{round, ofBits, toBits, neg, add, sub, mul, div, lt, eq, le}
-use Rattle.rule.specs.Lists.{countOf}
+use lib.Ieee.{round, ofBits, toBits, neg, add, sub, mul, div, lt, eq, le, ofInt}
+use Rattle.rule.specs.Lists.{countOf, those, sumFrom}
 use Rattle.root.specs.Digits.{wholeRoot}
 use Rattle.root.specs.Root.{significand, exponent, shiftOf, shift, scaled, height, rootBits, hasRoot, rootOf, rootAnswer}
 use Rattle.numbers.specs.Finite.{absOf, isFinite, within}
 use Rattle.numbers.specs.Quadratic.{counts0, linear, discriminant, ascending, curved, rootsOf, quadraticAnswer}
+use Rattle.book.specs.Score.{close, countIn, square, squaresIn, rmsOf, rmsIn, countUnder, stopAt, standing, judgedBy, standsOf, judgeTrial}
+use Rattle.book.specs.Book.{beats, winnerAfter, scoredAnswer, raised, lowered, entered, hasEnded, called, fresh, bookAfter}
 use Rattle.sheet.specs.Marks.{pointOf, squaredApart}
 use Rattle.sheet.specs.Distance.{projectionOf, distanceOf, inlier}
 use Rattle.starred.specs.Starred.{Starred}
 
 pub starred : Starred
-unfolding round ofBits toBits neg add sub mul div lt le leadingZeros wholeRoot significand exponent shiftOf shift scaled height rootBits hasRoot rootOf rootAnswer absOf isFinite within counts0 linear discriminant ascending curved rootsOf quadraticAnswer countOf pointOf squaredApart projectionOf distanceOf inlier eq
+unfolding round ofBits toBits neg add sub mul div lt le leadingZeros wholeRoot significand exponent shiftOf shift scaled height rootBits hasRoot rootOf rootAnswer absOf isFinite within counts0 linear discriminant ascending curved rootsOf quadraticAnswer countOf pointOf squaredApart projectionOf distanceOf inlier eq close countIn those sumFrom square squaresIn rmsOf rmsIn ofInt countUnder stopAt standing judgedBy standsOf judgeTrial beats winnerAfter scoredAnswer raised lowered entered hasEnded called fresh bookAfter
 starred =
     record {
       under-I = refl;
@@ -21,6 +23,14 @@ starred =
       I-within-3 = refl;
       T-within-2 = refl;
       none-behind = refl;
+      I-scored = refl;
+      I-scores-5 = refl;
+      T-few = refl;
+      refit-too-low = refl;
+      refit-stands = refl;
+      behind-few = refl;
+      behind-scored = refl;
+      first-wins = refl;
       root-of-4 = refl;
       root-of-the-least = refl;
       two-roots = refl;

@@ -1,7 +1,7 @@
 -- Document 01, 'Sheets to try': the starred cases, one list. `proofs/Proved.antt` proves it, of the definitions.
 -- The cases without a star, and these too, are run by the program `cases`.
 use mathlib.Core.Path.{_≡_}
-use mathlib.Core.Bool.{false}
+use mathlib.Core.Bool.{Bool, true, false}
 use mathlib.Core.List.{List, [], _∷_, map}
 use Prim.Native.Nat.{ℕ, _^_}
 use lib.Ieee.{Float, binary64, round, neg}
@@ -9,6 +9,9 @@ use Rattle.rule.specs.Answer.{gives}
 use Rattle.rule.specs.Lists.{countOf}
 use Rattle.root.specs.Root.{rootAnswer}
 use Rattle.numbers.specs.Quadratic.{quadraticAnswer}
+use Rattle.numbers.specs.Constants.{infinity}
+use Rattle.book.specs.Score.{Options, Trial, fitted, refitted, countIn, Judged, few, scored, judgeTrial}
+use Rattle.book.specs.Book.{held, fresh, bookAfter}
 use Rattle.sheet.specs.Distance.{distanceOf, inlier}
 use Rattle.sheet.specs.declared.marks.Mark.{Mark}
 use Rattle.sheet.specs.declared.model.Model.{Model}
@@ -42,7 +45,18 @@ T = model (whole 3) (whole 1)
 abbrev pub behind : Model
 behind = model (whole 0) (neg (whole 1))
 
--- Of the cases that count marks under a model, the counts stand here. What a trial makes of them (few, scored, the root mean square) comes with the trials.
+-- ---- trials on the square
+
+abbrev opts : Float → ℕ → Bool → Options
+opts thresh least refits = record { thresh = thresh; most = 10; least = least; refits = refits }
+
+-- what a trial comes to, with the stop list 9 9 9 9 3 9 of the worked run
+abbrev trial : Options → Trial Model → Judged Model
+trial o t = judgeTrial o (λ h. map (distanceOf h) square) (9 ∷ 9 ∷ 9 ∷ 9 ∷ 3 ∷ 9 ∷ []) t
+
+abbrev stands : Model → ℕ → Float → ℕ → Judged Model
+stands h count rms stop = scored (record { model = h; count = count; rms = rms; stop = stop })
+
 pub record Starred : Type 0 where
   pub under-I : map (distanceOf I) square ≡ whole 0 ∷ whole 0 ∷ whole 0 ∷ whole 0 ∷ whole 3 ∷ []
   pub under-T : map (distanceOf T) square ≡ whole 3 ∷ whole 3 ∷ whole 3 ∷ whole 3 ∷ whole 0 ∷ []
@@ -50,6 +64,20 @@ pub record Starred : Type 0 where
   pub I-within-3 : countOf (inlier I (whole 3)) square ≡ 5
   pub T-within-2 : countOf (inlier T (whole 2)) square ≡ 1
   pub none-behind : countOf (inlier behind (whole 2)) square ≡ 0
+  -- I, thresh 2: 4 marks, rms 0. Thresh 3: 5 marks.
+  pub I-scored : trial (opts (whole 2) 4 false) (fitted I) ≡ stands I 4 (whole 0) 3
+  pub I-scores-5 : countIn (whole 3) (map (distanceOf I) square) ≡ 5
+  pub T-few : trial (opts (whole 2) 4 false) (fitted T) ≡ few 1
+  -- fit I, refit T, thresh 2, refit on: min 4 keeps I; min 1 takes T, count 1
+  pub refit-too-low : trial (opts (whole 2) 4 true) (refitted I T) ≡ stands I 4 (whole 0) 3
+  pub refit-stands : trial (opts (whole 2) 1 true) (refitted I T) ≡ stands T 1 (whole 0) 9
+  -- I with h8 = -1: few at min 1; scored at min 0, rms infinite
+  pub behind-few : trial (opts (whole 2) 1 false) (fitted behind) ≡ few 0
+  pub behind-scored : trial (opts (whole 2) 0 false) (fitted behind) ≡ stands behind 0 infinity 10
+  -- I twice, thresh 2, min 4: trial 1 wins
+  pub first-wins :
+      bookAfter (opts (whole 2) 4 false) (fresh (opts (whole 2) 4 false)) (trial (opts (whole 2) 4 false) (fitted I) ∷ trial (opts (whole 2) 4 false) (fitted I) ∷ []) .winner
+      ≡ held (record { model = I; count = 4; rms = whole 0; number = 1 })
   pub root-of-4 : rootAnswer (whole 4) ≡ gives (whole 2)
   pub root-of-the-least : rootAnswer (power 1074) ≡ gives (power 537)
   pub two-roots : quadraticAnswer (whole 1) (neg (whole 3)) (whole 2) ≡ gives (whole 1 ∷ whole 2 ∷ [])

@@ -1,29 +1,21 @@
-use Rattle.pick.proofs.Answers.{under-refused, under-written}
+-- `pick::indices::indices_under` meets its contract. Assumes nothing.
 use borrow.Author.Needs.{needs}
+use Rattle.pick.proofs.Answers.{under-refused, under-written}
 use Rattle.pick.proofs.indices.indices_under.Statement.{statement}
 use Rattle.pick.proofs.indices.indices_under.Tie as tie
-use Rattle.pick.proofs.indices.indices_under.Reads as reads
-use Rattle.pick.proofs.indices.indices_under.Lts as lts
-use Rattle.pick.proofs.indices.check_order.Reads as check-order-reads
-use Rattle.score.proofs.write_inliers.Reads as write-inliers-reads
 
--- src/indices.rt:42:9
 check-order-requires : tie.Need-check-order-requires
 check-order-requires c κs = search needs
 
--- src/indices.rt:44:9
 returns : tie.Need-returns
 returns c = under-refused _ _ _ _ _ (c .before .check-order .ensures) (c .if1 .taken)
 
--- src/indices.rt:48:22
 write-inliers-requires : tie.Need-write-inliers-requires
 write-inliers-requires c κs = search needs
 
--- src/indices.rt:38:1
 same-length : tie.Need-same-length
 same-length c = search needs
 
--- src/indices.rt:38:1
 returns-2 : tie.Need-returns-2
 returns-2 c = under-written _ _ _ _ _ (c .before .before .before .before .before .before .before .check-order .ensures) (c .before .before .before .before .before .before .if1 .left) (c .before .before .write-inliers .ensures .0) (c .before .before .write-inliers .ensures .1)
 

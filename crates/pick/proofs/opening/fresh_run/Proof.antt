@@ -1,10 +1,8 @@
+-- `pick::opening::fresh_run` meets its contract. Assumes nothing.
 use Rattle.pick.proofs.Answers.{nothing-read}
 use Rattle.pick.proofs.opening.fresh_run.Statement.{statement}
 use Rattle.pick.proofs.opening.fresh_run.Tie as tie
-use Rattle.pick.proofs.opening.fresh_run.Reads as reads
-use Rattle.pick.proofs.opening.fresh_run.Lts as lts
 
--- src/opening.rt:17:1
 returns : tie.Need-returns
 returns c = nothing-read _ _
 

@@ -1,19 +1,15 @@
+-- `pick::trials::booked_empty` meets its contract. Assumes nothing.
 use native.Mathlib.Omega.{arith}
 use Rattle.pick.proofs.Booking.{small, emptied}
 use Rattle.pick.proofs.trials.booked_empty.Statement.{statement}
 use Rattle.pick.proofs.trials.booked_empty.Tie as tie
-use Rattle.pick.proofs.trials.booked_empty.Reads as reads
-use Rattle.pick.proofs.trials.booked_empty.Lts as lts
 
--- src/trials.rt:88:5
 add-t : tie.Need-add-t
 add-t c = let s = small _ (c .before .pre) in let r = s .reads in omega (arith, r)
 
--- src/trials.rt:89:5
 add-t-2 : tie.Need-add-t-2
 add-t-2 c = let s = small _ (c .before .before .pre) in let r = s .reads in let e = s .empties in omega (arith, r, e)
 
--- src/trials.rt:83:1
 returns : tie.Need-returns
 returns c = emptied _
 

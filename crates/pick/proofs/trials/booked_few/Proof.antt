@@ -1,19 +1,15 @@
+-- `pick::trials::booked_few` meets its contract. Assumes nothing.
 use native.Mathlib.Omega.{arith}
 use Rattle.pick.proofs.Booking.{small, fewed}
 use Rattle.pick.proofs.trials.booked_few.Statement.{statement}
 use Rattle.pick.proofs.trials.booked_few.Tie as tie
-use Rattle.pick.proofs.trials.booked_few.Reads as reads
-use Rattle.pick.proofs.trials.booked_few.Lts as lts
 
--- src/trials.rt:101:5
 add-t : tie.Need-add-t
 add-t c = let s = small _ (c .before .pre) in let r = s .reads in omega (arith, r)
 
--- src/trials.rt:102:5
 add-t-2 : tie.Need-add-t-2
 add-t-2 c = let s = small _ (c .before .before .pre) in let r = s .reads in let e = s .fews in omega (arith, r, e)
 
--- src/trials.rt:96:1
 returns : tie.Need-returns
 returns c = fewed _ _
 

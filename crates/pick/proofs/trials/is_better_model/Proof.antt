@@ -1,18 +1,14 @@
+-- `pick::trials::is_better_model` meets its contract. Assumes nothing.
 use Rattle.pick.proofs.Booking.{more-marks, fewer-marks, same-marks}
 use Rattle.pick.proofs.trials.is_better_model.Statement.{statement}
 use Rattle.pick.proofs.trials.is_better_model.Tie as tie
-use Rattle.pick.proofs.trials.is_better_model.Reads as reads
-use Rattle.pick.proofs.trials.is_better_model.Lts as lts
 
--- src/trials.rt:55:9
 returns : tie.Need-returns
 returns c = search more-marks
 
--- src/trials.rt:58:9
 returns-2 : tie.Need-returns-2
 returns-2 c = fewer-marks _ _ (c .before .before .before .if1 .left) (c .if2 .taken)
 
--- src/trials.rt:51:1
 returns-3 : tie.Need-returns-3
 returns-3 c = search same-marks
 

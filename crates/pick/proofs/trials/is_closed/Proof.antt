@@ -1,26 +1,20 @@
+-- `pick::trials::is_closed` meets its contract. Assumes nothing.
 use Rattle.pick.proofs.Booking.{ended, too-many, empties-over, fews-over, scores-over}
 use Rattle.pick.proofs.trials.is_closed.Statement.{statement}
 use Rattle.pick.proofs.trials.is_closed.Tie as tie
-use Rattle.pick.proofs.trials.is_closed.Reads as reads
-use Rattle.pick.proofs.trials.is_closed.Lts as lts
 
--- src/trials.rt:23:9
 returns : tie.Need-returns
 returns c = search ended
 
--- src/trials.rt:26:9
 returns-2 : tie.Need-returns-2
 returns-2 c = search too-many
 
--- src/trials.rt:29:9
 returns-3 : tie.Need-returns-3
 returns-3 c = search empties-over
 
--- src/trials.rt:32:9
 returns-4 : tie.Need-returns-4
 returns-4 c = search fews-over
 
--- src/trials.rt:19:1
 returns-5 : tie.Need-returns-5
 returns-5 c = search scores-over
 

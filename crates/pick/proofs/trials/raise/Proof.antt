@@ -1,14 +1,11 @@
+-- `pick::trials::raise` meets its contract. Assumes nothing.
 use Rattle.pick.proofs.Booking.{raise-up, raise-not}
 use Rattle.pick.proofs.trials.raise.Statement.{statement}
 use Rattle.pick.proofs.trials.raise.Tie as tie
-use Rattle.pick.proofs.trials.raise.Reads as reads
-use Rattle.pick.proofs.trials.raise.Lts as lts
 
--- src/trials.rt:37:1
 returns : tie.Need-returns
 returns c = search raise-up
 
--- src/trials.rt:37:1
 returns-2 : tie.Need-returns-2
 returns-2 c = search raise-not
 

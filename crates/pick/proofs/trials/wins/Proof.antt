@@ -1,28 +1,21 @@
-use Rattle.pick.proofs.Booking.{wins-first, wins-over}
+-- `pick::trials::wins` meets its contract. Assumes nothing.
 use borrow.Author.Needs.{needs}
+use Rattle.pick.proofs.Booking.{wins-first, wins-over}
 use Rattle.pick.proofs.trials.wins.Statement.{statement}
 use Rattle.pick.proofs.trials.wins.Tie as tie
-use Rattle.pick.proofs.trials.wins.Reads as reads
-use Rattle.pick.proofs.trials.wins.Lts as lts
-use Rattle.pick.proofs.trials.is_better_model.Reads as is-better-model-reads
 
--- src/trials.rt:68:26
 enum-told : tie.Need-enum-told
 enum-told c = search needs
 
--- src/trials.rt:69:20
 enum-known-best : tie.Need-enum-known-best
 enum-known-best c = search needs
 
--- src/trials.rt:69:26
 is-better-model-requires : tie.Need-is-better-model-requires
 is-better-model-requires c κs = search needs
 
--- src/trials.rt:64:1
 returns : tie.Need-returns
 returns c = wins-first _ (c .enum-told .given .1)
 
--- src/trials.rt:64:1
 returns-2 : tie.Need-returns-2
 returns-2 c = wins-over _ (c .before .before .best .given .1) (c .is-better-model .ensures)
 
