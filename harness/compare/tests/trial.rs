@@ -4,6 +4,7 @@
 use compare::{Tally, junk_words};
 use oracle::book::{Book, Call, Options, State, Words, trial_record};
 use oracle::cases::{NANS, Random};
+use oracle::example::SQUARE;
 use oracle::pick_cases::{
     Case, any_stops, damage_marks, damage_options, damage_trial, hand_made, other_length,
     reference, runs,
@@ -110,6 +111,62 @@ impl Outcomes {
         self.0[told[24] as usize] += 1;
         self.1 += usize::from(told[10] > before[10]);
     }
+}
+
+// The document's sheets.
+
+const I: Model = [1.0, 0.0, 0.0, 0.0, 1.0, 0.0, 0.0, 0.0, 1.0];
+const T: Model = [1.0, 0.0, 0.0, 0.0, 1.0, 3.0, 0.0, 0.0, 1.0];
+const BEHIND: Model = [1.0, 0.0, 0.0, 0.0, 1.0, 0.0, 0.0, 0.0, -1.0];
+
+/// Trials on the square, from an opening of its own: the outcome, count and
+/// rms of each.
+fn on_the_square(thresh: f64, min_inliers: u32, trials: &[Trial]) -> Vec<(u64, u64, f64)> {
+    let stops = [9, 9, 9, 9, 3, 9];
+    let options = pick::Options {
+        thresh,
+        confidence: 0.99,
+        max_iters: 10,
+        min_inliers,
+        refit: true,
+    };
+    let mut words = [0; 24];
+    assert_eq!(pick::open_options(options, &SQUARE, &stops, &mut words), 0);
+    let one = |trial: &Trial| {
+        let record = trial_record(trial);
+        let call = Call {
+            record: &record,
+            marks: &SQUARE,
+            stops: &stops,
+        };
+        let told = compare(&words, &call);
+        words = state_of(&told);
+        (told[24], told[25], f64::from_bits(told[26]))
+    };
+    trials.iter().map(one).collect()
+}
+
+/// The numbers are the document's: 2 is few, 3 held, 4 won.
+#[test]
+fn the_documents_sheets() {
+    let fit = |model| Trial {
+        fit: Some(model),
+        refit: None,
+    };
+    let pair = Trial {
+        fit: Some(I),
+        refit: Some(T),
+    };
+    assert_eq!(on_the_square(2.0, 4, &[fit(I)]), [(4, 4, 0.0)]);
+    assert_eq!(on_the_square(3.0, 4, &[fit(I)])[0].1, 5);
+    assert_eq!(on_the_square(2.0, 4, &[fit(T)]), [(2, 1, 0.0)]);
+    assert_eq!(on_the_square(2.0, 4, &[pair]), [(4, 4, 0.0)]);
+    assert_eq!(on_the_square(2.0, 1, &[pair]), [(4, 1, 0.0)]);
+    assert_eq!(on_the_square(2.0, 1, &[fit(BEHIND)]), [(2, 0, 0.0)]);
+    let infinite = (4, 0, f64::INFINITY);
+    assert_eq!(on_the_square(2.0, 0, &[fit(BEHIND)]), [infinite]);
+    let twice = [(4, 4, 0.0), (3, 4, 0.0)];
+    assert_eq!(on_the_square(2.0, 4, &[fit(I), fit(I)]), twice);
 }
 
 // Openings.
