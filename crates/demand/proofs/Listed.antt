@@ -1,35 +1,34 @@
 -- The calls of the third demand: after any list of them from an accepted opening. Assumes nothing.
 use mathlib.Core.Path.{_≡_, refl, sym, ap, subst, _∙_}
-use mathlib.Core.Bool.{Bool, true, false, not, cond}
-use mathlib.Core.Logic.{_⊎_, inl, inr, ⊎-elim}
-use mathlib.Core.List.{List, [], _∷_, _++_, map}
-use Prim.Native.Nat.{ℕ, zero, suc, _^_, _≤_, _<_}
+use mathlib.Core.List.{List, _∷_, _++_, map}
+use Prim.Native.Nat.{ℕ, zero, suc, _^_, _≤_}
 use native.Mathlib.Omega.{arith}
 use lib.Dec.{T}
-use lib.ListN.{length, getD, take, drop, length-map}
+use lib.ListN.{length, getD, take, drop}
 use lib.Seq.{take-at, drop-at}
 use lib.Ieee.{Float}
-use Rattle.rule.specs.Answer.{refused, gives}
+use Rattle.rule.specs.Answer.{gives}
 use Rattle.rule.specs.Order.{firstFailed, decided, ifPassed}
-use Rattle.rule.specs.Lists.{every}
 use Rattle.rule.specs.Arith.{clear}
-use Rattle.rule.proofs.Order.{decided-gives, decided-refused, done, first-passed}
+use Rattle.rule.proofs.Order.{decided-gives, done, first-passed, decided-none}
 use Rattle.sheet.specs.Marks.{marksOf, markAt, noMark}
 use Rattle.sheet.specs.Distance.{distanceOf, inlier}
 use Rattle.sheet.specs.declared.model.Model.{Model}
 use Rattle.sheet.proofs.Places.{count}
-use Rattle.book.specs.Score.{Options, close, countIn, rmsIn, Standing, Judged, scored, turned-down, judgeTrial}
-use Rattle.book.specs.Book.{Winner, Held, none, held, Book, Entered, fresh, bookAfter, answersOf}
-use Rattle.book.specs.Calls.{tried, Called, Carried, isRefusal}
-use Rattle.book.specs.Rule.{Kept, Stopped, stopped, broken, runOver, ReadTo}
-use Rattle.book.proofs.Picked.{judge-own, judge-clear, picking-rule, winner-has, run-exact}
+use Rattle.book.specs.Score.{close, countIn, rmsIn, Standing, Judged, scored, turned-down}
+use Rattle.book.specs.Book.{Winner, held, Entered, fresh}
+use Rattle.book.specs.Calls.{tried, Called, Carried}
+use Rattle.book.specs.Rule.{Kept}
+use Rattle.book.proofs.Picked.{judge-own, judge-clear, picking-rule, winner-has}
+use Rattle.records.specs.Options.{optionsRecord, optionsOf}
 use Rattle.records.specs.Trial.{trialOf}
 use Rattle.records.specs.declared.options.RansacOptions.{RansacOptions}
 use Rattle.score.specs.Distances.{distancesOf, indicesIn}
 use Rattle.score.proofs.Walk.{ds-length, ds-at}
 use Rattle.judge.specs.Judging.{ruleOf, Call, callTests, worth, judgedBy, judgeOf}
 use Rattle.pick.specs.Run.{Run, Answer, viewBest, bookOf, viewState, viewOutcome, viewTried}
-use Rattle.pick.specs.Opening.{openingTests, freshRun, openingAnswer, viewOpened}
+use Rattle.pick.specs.Opening.{openingTests, freshRun, openingAnswer, recordAnswer, viewOpened}
+use Rattle.pick.specs.declared.opening.Opened.the-variants.{Open}
 use Rattle.pick.specs.Trial.{answerOf, triedWith, trialAnswer}
 use Rattle.pick.specs.Indices.{marksOrder, underAnswer, underAfter, winnerAnswer, winnerAfter, indicesAnswer, indicesAfter, viewIndexed}
 use Rattle.pick.specs.declared.run_state.State.{State}
@@ -37,7 +36,7 @@ use Rattle.pick.specs.declared.run_state.Outcome.{Outcome}
 use Rattle.pick.specs.declared.indices.Indexed.{Indexed}
 use Rattle.pick.specs.declared.indices.Indexed.the-variants.{Written}
 use Rattle.pick.proofs.Order.{opened-iters, call-short}
-use Rattle.demand.specs.Demand.{Opening, Tried, Carries, Exactly, IndicesGiven, AfterCalls}
+use Rattle.demand.specs.Demand.{Opening, Tried, Carries, Exactly, AfterCalls}
 use Rattle.demand.proofs.Placed.{places-exactly}
 
 -- ---- a judged call that is scored
@@ -48,6 +47,15 @@ by-number zero w t e = (refl, e)
 by-number (suc k) w t e = absurd (let z : _≡_ {A = ℕ} 0 1 = cc in omega (arith, z))
 
 -- ---- the opening
+
+-- by a record
+pub record-opens : (bytes : List ℕ) (marks : List Float) (stops : List ℕ) (s₀ : State) → viewOpened (Open s₀) ≡ recordAnswer bytes marks stops
+    → Opening (optionsOf bytes) marks stops s₀
+unfolding viewOpened recordAnswer openingAnswer optionsRecord
+record-opens bytes marks stops s₀ e =
+    let d = decided-gives (firstFailed (optionsRecord bytes ∷ openingTests (optionsOf bytes) marks stops)) e in
+    let p = first-passed (optionsRecord bytes) (openingTests (optionsOf bytes) marks stops) tt (d .0) in
+    ap gives (d .1) ∙ decided-none (freshRun (optionsOf bytes) (length (marksOf marks))) (sym (p .1))
 
 module _ (o : RansacOptions) (marks : List Float) (stops : List ℕ) (s₀ : State) (opening : Opening o marks stops s₀) where
   abbrev n : ℕ

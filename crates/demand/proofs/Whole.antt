@@ -1,9 +1,9 @@
 -- The whole run of the third demand. Assumes nothing.
 use mathlib.Core.Path.{_≡_, refl, sym, ap, subst, _∙_}
-use mathlib.Core.Bool.{Bool, true, false, not, _&&_, _||_}
-use mathlib.Core.Logic.{_⊎_, inl, inr, ⊎-elim}
+use mathlib.Core.Bool.{Bool, true, false, not, _&&_}
+use mathlib.Core.Logic.{_⊎_, ⊎-elim}
 use mathlib.Core.List.{List, [], _∷_, _++_, map}
-use Prim.Native.Nat.{ℕ, zero, suc, _*_, _/_, _%_, _≤_, _<_}
+use Prim.Native.Nat.{ℕ, zero, suc, _*_, _%_, _≤_}
 use native.Mathlib.Omega.{arith}
 use borrow.Author.Tests.{eq-eqb, le-ltb, eqb-true, ltb-false, not-false}
 use lib.Dec.{ltb, eqb}
@@ -11,7 +11,7 @@ use lib.ListN.{length, take, drop}
 use lib.Ieee.{Float}
 use Rattle.rule.specs.Refusal.{NONE}
 use Rattle.rule.specs.Answer.{refused, gives}
-use Rattle.rule.specs.Order.{Test, firstFailed, decided, ifPassed, room}
+use Rattle.rule.specs.Order.{firstFailed, room}
 use Rattle.rule.specs.Lists.{every}
 use Rattle.rule.proofs.Tests.{neither}
 use Rattle.rule.proofs.Order.{passes, first-passed, decided-none, done}
@@ -29,13 +29,13 @@ use Rattle.records.specs.Marks.{numbersIn}
 use Rattle.records.specs.declared.options.RansacOptions.{RansacOptions}
 use Rattle.records.proofs.Whole.{numbers-length}
 use Rattle.score.specs.Distances.{distancesOf, indicesIn}
-use Rattle.judge.specs.Judging.{ruleOf, Call, ofRun, entries, judgeOf}
+use Rattle.judge.specs.Judging.{ruleOf, ofRun, entries, judgeOf}
 use Rattle.pick.specs.Run.{viewBest, bookOf, viewState, viewOutcome}
 use Rattle.pick.specs.Opening.{openingTests, freshRun, openingAnswer}
 use Rattle.pick.specs.Indices.{marksOrder, indicesAfter}
 use Rattle.pick.specs.declared.run_state.State.{State}
 use Rattle.pick.specs.declared.run_state.Outcome.{Outcome}
-use Rattle.salghemu.specs.Whole.{Files, markBytes, stopBytes, laterTests, orderOf, runTests, recordsIn, callWith, callsOf, judgedIn, stopOf, wonBy, resultOf, afterTests, runAnswer, numberOf, winnerBytes, indexBytes, laidOver, written, Gave}
+use Rattle.salghemu.specs.Whole.{Files, markBytes, stopBytes, laterTests, orderOf, runTests, recordsIn, callWith, callsOf, judgedIn, stopOf, wonBy, resultOf, afterTests, runAnswer, numberOf, indexBytes, laidOver, written, Gave}
 use Rattle.demand.specs.Demand.{Opening, Tried, Refuses, GivesOf, CalledAlike, AfterRun, by-tests, by-trials}
 use Rattle.demand.proofs.Listed.{after-list, after-is}
 

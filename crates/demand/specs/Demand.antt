@@ -1,7 +1,7 @@
 -- The customer's third demand, of the sheet's picker: what holds after any list of trial calls from an accepted opening, and of the whole run. Every
 -- premise on a call is that call's own promise (its `ensures`), so the theorem is about the program. `proofs/Demanded.antt` proves `Demand3`.
 use mathlib.Core.Path.{_≡_}
-use mathlib.Core.Bool.{Bool, true, false, not}
+use mathlib.Core.Bool.{Bool, true, not}
 use mathlib.Core.List.{List, [], _∷_, map}
 use Prim.Native.Nat.{ℕ, _<_, _≤_}
 use lib.ListN.{length, take, drop}
@@ -24,7 +24,7 @@ use Rattle.records.specs.declared.options.RansacOptions.{RansacOptions}
 use Rattle.score.specs.Distances.{distancesOf}
 use Rattle.judge.specs.Judging.{ruleOf, Call, judgeOf}
 use Rattle.pick.specs.Run.{viewBest, bookOf, viewState, viewOutcome, viewTried}
-use Rattle.pick.specs.Opening.{freshRun, openingAnswer, viewOpened}
+use Rattle.pick.specs.Opening.{freshRun, openingAnswer, recordAnswer, viewOpened}
 use Rattle.pick.specs.Trial.{trialAnswer}
 use Rattle.pick.specs.Indices.{indicesAnswer, indicesAfter, viewIndexed}
 use Rattle.pick.specs.declared.run_state.State.{State}
@@ -125,6 +125,9 @@ pub record Demand3 : Type 0 where
   pub after-calls : (o : RansacOptions) (marks : List Float) (stops : List ℕ) (s₀ s : State) (calls : List Call) (answers : List Outcome)
       → Opening o marks stops s₀ → Called Tried s₀ calls answers s → Carried (Carries marks stops) viewOutcome calls answers
       → AfterCalls o marks stops calls answers s
+  -- An opening by a record that is accepted is one with that record's options, so the same holds after it.
+  pub by-record : (bytes : List ℕ) (marks : List Float) (stops : List ℕ) (s₀ : State) → viewOpened (Open s₀) ≡ recordAnswer bytes marks stops
+      → Opening (optionsOf bytes) marks stops s₀
   -- 'The whole run, whatever its bytes': by its promise
   pub after-run : (f : Files) (r : ℕ) (winner indices winner′ indices′ : List ℕ)
       → Gave (runAnswer f (length winner) (length indices)) (optionsOf (f .options) .thresh) (numbersIn (f .marks)) winner indices r winner′ indices′
