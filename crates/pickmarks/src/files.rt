@@ -6,7 +6,7 @@ ghost use Prim.Native.Nat.{_≤_};
 ghost use Rattle.pickmarks.specs.Files.{Counts, numberCount, entryCount};
 
 // Reads a file into the front of `buffer`, as far as there is room, and answers how many bytes.
-pub fn read_file(path: &[u8], buffer: &mut [u8]) -> usize
+pub(crate) fn read_file(path: &[u8], buffer: &mut [u8]) -> usize
     ensures { λ r. ⌜ Counts r (now (buffer .exit)) ⌝ }
 {
     let fd = os::open_read(path);
@@ -46,7 +46,7 @@ fn entry_count(len: usize) -> usize
 }
 
 // Reads marks.bin into the front of `numbers`, and answers how many of them the opening is given.
-pub fn read_marks(numbers: &mut [f64; 8000]) -> usize
+pub(crate) fn read_marks(numbers: &mut [f64; 8000]) -> usize
     ensures { λ r. ⌜ Counts r (now (numbers .exit)) ⌝ }
 {
     let mut bytes = [0u8; 64000];
@@ -65,7 +65,7 @@ pub fn read_marks(numbers: &mut [f64; 8000]) -> usize
 }
 
 // Reads stops.bin into the front of `entries`, and answers how many of them the opening is given.
-pub fn read_stops(entries: &mut [u32; 2001]) -> usize
+pub(crate) fn read_stops(entries: &mut [u32; 2001]) -> usize
     ensures { λ r. ⌜ Counts r (now (entries .exit)) ⌝ }
 {
     // one byte more than the longest has, so that a longer file has a wrong length too

@@ -8,7 +8,7 @@ use pick::State;
 use pick::Winner;
 ghost use Prim.Native.Nat.{_≤_};
 
-pub fn print(text: &[u8]) {
+pub(crate) fn print(text: &[u8]) {
     io::write_all(STDOUT_FILENO, text);
 }
 
@@ -26,7 +26,7 @@ fn print_scored(count: u32, rms: f64) {
     print(b"\n");
 }
 
-pub fn print_refused(k: u32) {
+pub(crate) fn print_refused(k: u32) {
     print(b"refused");
     print_number(k);
     print(b"\n");
@@ -39,7 +39,7 @@ fn print_start(number: u32, text: &[u8]) {
 }
 
 // The line of a trial, or of its refusal.
-pub fn print_trial(number: u32, outcome: Outcome) {
+pub(crate) fn print_trial(number: u32, outcome: Outcome) {
     match outcome {
         Outcome::Refused(k) => print_refused(k),
         Outcome::Empty => print_start(number, b" empty - -\n"),
@@ -86,7 +86,7 @@ fn print_held(s: State, w: Winner, marks: &[f64]) {
     }
 }
 
-pub fn print_winner(s: State, marks: &[f64]) {
+pub(crate) fn print_winner(s: State, marks: &[f64]) {
     let best = s.winner;
     match best {
         Best::Nothing => print(b"winner none\n"),
@@ -94,7 +94,7 @@ pub fn print_winner(s: State, marks: &[f64]) {
     }
 }
 
-pub fn print_counts(s: State) {
+pub(crate) fn print_counts(s: State) {
     print(b"counts");
     print_number(s.read);
     print_number(s.empty);

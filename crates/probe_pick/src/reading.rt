@@ -75,7 +75,7 @@ fn options_in(words: &[u64]) -> RansacOptions
     }
 }
 
-pub fn state_in(words: &[u64]) -> State
+pub(crate) fn state_in(words: &[u64]) -> State
     ensures { λ r. ⌜ viewState r ≡ runIn (now (words .entry)) ⌝ }
 {
     State {

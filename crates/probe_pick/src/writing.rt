@@ -14,7 +14,7 @@ ghost use Rattle.pick.specs.Run.{viewWinner, viewBest, viewState, viewOutcome, 
 ghost use Rattle.probe_pick.specs.Words.{bit, optionWords, countWords, winnerWords, runWords, outcomeWords, triedWords};
 
 // Puts words into the front of `part`, if it has room for them.
-pub fn put(words: &[u64], part: &mut [u64])
+pub(crate) fn put(words: &[u64], part: &mut [u64])
     ensures { λ _. ⌜ now (part .exit) ≡ filled (now (words .entry)) (now (part .entry)) ⌝ }
 {
     let n = words.len();
@@ -34,7 +34,7 @@ fn bit(b: bool) -> u64
     if b { 1 } else { 0 }
 }
 
-pub fn option_words(o: RansacOptions) -> [u64; 5]
+pub(crate) fn option_words(o: RansacOptions) -> [u64; 5]
     ensures { λ r. ⌜ r ≡ optionWords o ⌝ }
 {
     [
@@ -90,7 +90,7 @@ fn winner_words(best: Best) -> [u64; 13]
 }
 
 // The state's words, into a list that has room for them.
-pub fn put_state(s: State, out: &mut [u64])
+pub(crate) fn put_state(s: State, out: &mut [u64])
     requires { ⌜ 24 ≤ length (now out) ⌝ }
     ensures { λ _. ⌜ now (out .exit) ≡ filled (runWords (viewState s)) (now (out .entry)) ⌝ }
 {
@@ -117,7 +117,7 @@ fn outcome_words(outcome: Outcome) -> [u64; 3]
 }
 
 // The new state's words and the outcome's, into a list that has room for them.
-pub fn put_tried(t: Tried, out: &mut [u64])
+pub(crate) fn put_tried(t: Tried, out: &mut [u64])
     requires { ⌜ 27 ≤ length (now out) ⌝ }
     ensures { λ _. ⌜ now (out .exit) ≡ filled (triedWords (viewTried t)) (now (out .entry)) ⌝ }
 {
