@@ -114,16 +114,7 @@ fn the_worked_run() {
     let (folder, _) = example::files();
     let output = Command::new(program()).current_dir(folder).output();
     let output = output.expect("the program; run `rt check pickmarks`");
-    let text = "\
-trial outcome count rms
-1 won 4 0000000000000000
-2 empty - -
-3 few 1 -
-winner 1 4 0000000000000000
-indices 0 1 2 3
-counts 3 1 1 1
-";
-    assert_eq!(String::from_utf8_lossy(&output.stdout), text);
+    assert_eq!(String::from_utf8_lossy(&output.stdout), example::PRINTED);
 }
 
 /// Runs that nothing is wrong with, in the reference's domain and beyond.

@@ -4,7 +4,7 @@
 use compare::{Tally, junk_words};
 use oracle::book::{Book, Call, Options, State, Words, trial_record};
 use oracle::cases::{NANS, Random};
-use oracle::example::SQUARE;
+use oracle::example::{BEHIND, I, SQUARE, T};
 use oracle::pick_cases::{
     Case, any_stops, damage_marks, damage_options, damage_trial, hand_made, other_length,
     reference, runs,
@@ -114,10 +114,6 @@ impl Outcomes {
 }
 
 // The document's sheets.
-
-const I: Model = [1.0, 0.0, 0.0, 0.0, 1.0, 0.0, 0.0, 0.0, 1.0];
-const T: Model = [1.0, 0.0, 0.0, 0.0, 1.0, 3.0, 0.0, 0.0, 1.0];
-const BEHIND: Model = [1.0, 0.0, 0.0, 0.0, 1.0, 0.0, 0.0, 0.0, -1.0];
 
 /// Trials on the square, from an opening of its own: the outcome, count and
 /// rms of each.

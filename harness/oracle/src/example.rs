@@ -1,9 +1,9 @@
 //! The sheet of examples/: the run that 01 works through.
 
-use crate::Trial;
 use crate::book::Options;
 use crate::pick_cases::Case;
 use crate::sheet_cases::IDENTITY;
+use crate::{Model, Trial};
 use std::path::PathBuf;
 
 /// The square, its middle mark printed three too far down.
@@ -15,11 +15,25 @@ pub const SQUARE: [f64; 20] = [
     50.0, 50.0, 50.0, 53.0,
 ];
 
+/// The identity, the identity with h5 = 3, and the identity with h8 = -1.
+pub const I: Model = IDENTITY;
+pub const T: Model = [1.0, 0.0, 0.0, 0.0, 1.0, 3.0, 0.0, 0.0, 1.0];
+pub const BEHIND: Model = [1.0, 0.0, 0.0, 0.0, 1.0, 0.0, 0.0, 0.0, -1.0];
+
+/// What the program prints for the worked run, word for word from 01.
+pub const PRINTED: &str = "\
+trial outcome count rms
+1 won 4 0000000000000000
+2 empty - -
+3 few 1 -
+winner 1 4 0000000000000000
+indices 0 1 2 3
+counts 3 1 1 1
+";
+
 /// The four inputs: a good candidate, no candidate, one moved down by three,
 /// and the first again, which the run no longer reads.
 pub fn sheet() -> Case {
-    let mut moved = IDENTITY;
-    moved[5] = 3.0;
     let trial = |fit| Trial { fit, refit: None };
     Case {
         options: Options {
@@ -31,9 +45,7 @@ pub fn sheet() -> Case {
         },
         marks: SQUARE.to_vec(),
         stops: vec![9, 9, 9, 9, 3, 9],
-        trials: [Some(IDENTITY), None, Some(moved), Some(IDENTITY)]
-            .map(trial)
-            .to_vec(),
+        trials: [Some(I), None, Some(T), Some(I)].map(trial).to_vec(),
     }
 }
 

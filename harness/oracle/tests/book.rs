@@ -1,13 +1,10 @@
 //! The book on 01's sheets to try, its records, its refusals and their orders.
 
 use oracle::book::{Best, Book, Call, Options, Outcome, State, trial_of_record, trial_record};
-use oracle::example::{self, SQUARE};
+use oracle::example::{self, BEHIND, I, SQUARE, T};
 use oracle::whole::{printed, run};
 use oracle::{Model, Trial};
 
-const I: Model = [1.0, 0.0, 0.0, 0.0, 1.0, 0.0, 0.0, 0.0, 1.0];
-const T: Model = [1.0, 0.0, 0.0, 0.0, 1.0, 3.0, 0.0, 0.0, 1.0];
-const BEHIND: Model = [1.0, 0.0, 0.0, 0.0, 1.0, 0.0, 0.0, 0.0, -1.0];
 const STOPS: [u32; 6] = [9, 9, 9, 9, 3, 9];
 
 fn options(thresh: f64, max_iters: u32, min_inliers: u32, refit: bool) -> Options {
@@ -297,16 +294,8 @@ fn indices_refuse_in_their_order() {
 /// 01's worked run, word for word.
 #[test]
 fn the_program_prints() {
-    let text = "\
-trial outcome count rms
-1 won 4 0000000000000000
-2 empty - -
-3 few 1 -
-winner 1 4 0000000000000000
-indices 0 1 2 3
-counts 3 1 1 1
-";
-    assert_eq!(printed(&example::sheet().bytes().inputs()), text);
+    let text = printed(&example::sheet().bytes().inputs());
+    assert_eq!(text, example::PRINTED);
 }
 
 #[test]
