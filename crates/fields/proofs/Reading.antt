@@ -1,17 +1,18 @@
 -- What a reader finds at a place: a field of any width, and how one of four bytes and one of eight are put together. Assumes nothing.
-use mathlib.Core.Path.{_≡_, refl, sym, ap, _∙_}
+use mathlib.Core.Path.{_≡_, sym, ap, _∙_}
 use mathlib.Core.Bool.{true, false}
 use mathlib.Core.List.{List, [], _∷_, _++_}
-use Prim.Native.Nat.{ℕ, zero, suc, _+_, _*_, _/_, _^_, _≤_, _<_, min}
-use native.Mathlib.Nat.{zero-add, add-zero, add-comm, add-suc, mul-zero, one-mul, mul-suc, mul-assoc, pow-zero, pow-succ'}
+use Prim.Native.Nat.{ℕ, suc, _+_, _*_, _/_, _^_, _≤_, _<_, min}
+use native.Mathlib.Nat.{zero-add, add-zero, add-suc, one-mul, mul-assoc, pow-zero, pow-succ'}
 use native.Mathlib.Omega.{arith}
 use borrow.Author.Tests.{eq-eqb, ne-eqb}
 use lib.Dec.{eqb}
 use lib.ListN.{length, getD, take, drop, length-take, length-drop, length-map, List·getD-map}
 use lib.Seq.{drop-cons, drop-drop, take-add, length-take-le, getD-take}
 use lib.Ieee.{Float, binary64, ofBits}
-use Rattle.rule.proofs.Lists.{past-end, place-read, every-next, every-stops, every-end}
-use Rattle.fields.specs.Fields.{littleEndian, firstFields, wordsOf, longsOf, doublesOf, wordAt, longAt, doubleAt, byteAt, zeroBytes}
+use Rattle.rule.specs.Lists.{partsOf}
+use Rattle.rule.proofs.Lists.{past-end, place-read, parts-count, part-at, every-next, every-stops, every-end}
+use Rattle.fields.specs.Fields.{littleEndian, fieldsOf, wordsOf, longsOf, doublesOf, wordAt, longAt, doubleAt, byteAt, zeroBytes}
 
 pub no-byte : (l : List ℕ) (i : ℕ) → length l ≤ i → 0 ≡ byteAt l i
 unfolding byteAt
@@ -19,21 +20,17 @@ no-byte l i h = past-end l i 0 h
 
 -- ---- fields of w bytes
 
-pub fields-count : (w n : ℕ) (l : List ℕ) → length (firstFields w n l) ≡ n
-unfolding firstFields
-fields-count w zero l = refl
-fields-count w (suc n) l = ap suc (fields-count w n (drop w l))
+module _ (w : ℕ) (l : List ℕ) where
+  pub fields-count : length (fieldsOf w l) ≡ length l / w
+  unfolding fieldsOf partsOf
+  fields-count = length-map (partsOf w l) littleEndian ∙ parts-count w (length l / w) l
 
-pub field-at : (w n : ℕ) (l : List ℕ) (i : ℕ) → i < n → getD (firstFields w n l) i 0 ≡ littleEndian (take w (drop (w * i) l))
-unfolding firstFields
-field-at w zero l i h = absurd (omega (arith, h))
-field-at w (suc n) l zero h = rw (mul-zero w)
-field-at w (suc n) l (suc i) h =
-    field-at w n (drop w l) i (omega (arith, h))
-    ∙ rw (drop-drop (w * i) w l, mul-suc w i, add-comm (w * i) w)
+  pub field-at : (i : ℕ) → i < length l / w → getD (fieldsOf w l) i 0 ≡ littleEndian (take w (drop (w * i) l))
+  unfolding fieldsOf partsOf littleEndian
+  field-at i h = List·getD-map littleEndian (partsOf w l) i [] ∙ ap littleEndian (part-at w (length l / w) i l [] h)
 
-pub no-field : (w n : ℕ) (l : List ℕ) (i : ℕ) → n ≤ i → 0 ≡ getD (firstFields w n l) i 0
-no-field w n l i h = past-end (firstFields w n l) i 0 (rw (fields-count w n l) h)
+  pub no-field : (i : ℕ) → length l / w ≤ i → 0 ≡ getD (fieldsOf w l) i 0
+  no-field i h = past-end (fieldsOf w l) i 0 (rw fields-count h)
 
 -- ---- the number of two lists of bytes, one after the other
 
@@ -57,7 +54,7 @@ module _ (l : List ℕ) (p : ℕ) (inside : p + 4 ≤ length l) where
 
 word-spelled : (l : List ℕ) (i : ℕ) → i < length l / 4 → wordAt l i ≡ littleEndian (take 4 (drop (4 * i) l))
 unfolding wordAt wordsOf
-word-spelled l i h = field-at 4 (length l / 4) l i h
+word-spelled l i h = field-at 4 l i h
 
 pub word-read : (l : List ℕ) (i : ℕ) → i < length l / 4 → {a b c d : ℕ} → a ≡ getD l (4 * i) 0 → b ≡ getD l (4 * i + 1) 0 → c ≡ getD l (4 * i + 2) 0 → d ≡ getD l (4 * i + 3) 0
     → a + b * 0x100 + c * 0x1_0000 + d * 0x100_0000 ≡ wordAt l i
@@ -70,11 +67,11 @@ word-read l i h {a} {b} {c} {d} p q r s =
 
 pub words-count : (l : List ℕ) → length l / 4 ≡ length (wordsOf l)
 unfolding wordsOf
-words-count l = sym (fields-count 4 (length l / 4) l)
+words-count l = sym (fields-count 4 l)
 
 pub no-word : (l : List ℕ) (i : ℕ) → length l / 4 ≤ i → 0 ≡ wordAt l i
 unfolding wordAt wordsOf
-no-word l i h = no-field 4 (length l / 4) l i h
+no-word l i h = no-field 4 l i h
 
 -- ---- eight bytes
 
@@ -97,18 +94,18 @@ module _ (l : List ℕ) (i : ℕ) (inside : i < length l / 8) where
 pub long-read : (l : List ℕ) (i : ℕ) → i < length l / 8 → {a b : ℕ} → a ≡ wordAt l (2 * i) → b ≡ wordAt l (2 * i + 1) → a + b * 0x1_0000_0000 ≡ longAt l i
 unfolding longAt longsOf
 long-read l i h {a} {b} p q =
-    let e = field-at 8 (length l / 8) l i h ∙ eight l i h in
+    let e = field-at 8 l i h ∙ eight l i h in
     omega (arith, e, p, q)
 
 pub no-long : (l : List ℕ) (i : ℕ) → length l / 8 ≤ i → 0 ≡ longAt l i
 unfolding longAt longsOf
-no-long l i h = no-field 8 (length l / 8) l i h
+no-long l i h = no-field 8 l i h
 
 -- ---- eight bytes as a double
 
 pub doubles-count : (l : List ℕ) → length (doublesOf l) ≡ length l / 8
 unfolding doublesOf longsOf
-doubles-count l = length-map (longsOf l) (ofBits binary64) ∙ fields-count 8 (length l / 8) l
+doubles-count l = length-map (longsOf l) (ofBits binary64) ∙ fields-count 8 l
 
 pub double-read : (l : List ℕ) (i : ℕ) (d : Float) → i < length l / 8 → doubleAt l i ≡ getD (doublesOf l) i d
 unfolding doubleAt longAt doublesOf

@@ -3,9 +3,9 @@ use mathlib.Core.Bool.{Bool}
 use mathlib.Core.List.{List, [], _∷_, map}
 use Prim.Native.Nat.{ℕ, zero, suc, _+_, _*_, _/_, _%_}
 use lib.Dec.{eqb}
-use lib.ListN.{length, getD, take, drop}
+use lib.ListN.{getD, take, drop}
 use lib.Ieee.{Float, binary64, ofBits, toBits}
-use Rattle.rule.specs.Lists.{every}
+use Rattle.rule.specs.Lists.{every, partsOf}
 
 -- ---- reading
 
@@ -14,17 +14,15 @@ unfoldable pub littleEndian : List ℕ → ℕ
 littleEndian [] = 0
 littleEndian (b ∷ bs) = b + 256 * littleEndian bs
 
--- the first n fields of w bytes each
-unfoldable pub firstFields : (w n : ℕ) → List ℕ → List ℕ
-firstFields w zero l = []
-firstFields w (suc n) l = littleEndian (take w l) ∷ firstFields w n (drop w l)
+-- all whole fields of w bytes; what is left over at the end is no field
+unfoldable pub fieldsOf : (w : ℕ) → List ℕ → List ℕ
+fieldsOf w l = map littleEndian (partsOf w l)
 
--- all whole fields of four and of eight bytes; what is left over at the end is no field
 unfoldable pub wordsOf : List ℕ → List ℕ
-wordsOf l = firstFields 4 (length l / 4) l
+wordsOf l = fieldsOf 4 l
 
 unfoldable pub longsOf : List ℕ → List ℕ
-longsOf l = firstFields 8 (length l / 8) l
+longsOf l = fieldsOf 8 l
 
 -- eight bytes as a double, by its bit pattern; all NaNs are one
 unfoldable pub doublesOf : List ℕ → List Float

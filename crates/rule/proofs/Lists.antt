@@ -2,9 +2,9 @@
 -- Assumes nothing.
 use mathlib.Core.Path.{_≡_, refl, sym, ap, ap₂, _∙_}
 use mathlib.Core.Bool.{Bool, true, false, cond}
-use mathlib.Core.List.{List, [], _∷_, _++_, append-assoc, append-nil}
+use mathlib.Core.List.{List, [], _∷_, _++_, map, append-assoc, append-nil}
 use Prim.Native.Nat.{ℕ, zero, suc, _+_, _-_, _*_, _≤_, _<_}
-use native.Mathlib.Nat.{zero-add, add-assoc, le-add-right, mul-zero, one-mul, mul-suc, mul-le-mul-left, le-of-lt, le-of-eq}
+use native.Mathlib.Nat.{zero-add, add-assoc, add-comm, le-add-right, mul-zero, one-mul, mul-suc, mul-le-mul-left, le-of-lt, le-of-eq}
 use native.Mathlib.Numerals.{add-one}
 use native.Mathlib.Omega.{arith}
 use borrow.Author.Tests.{lt-ltb, le-ltb}
@@ -13,7 +13,7 @@ use lib.ListN.{length, getD, take, drop, set, length-append, length-drop, drop-o
 use lib.Seq.{drop-cons, take-suc, take-length, take-at, drop-at, drop-drop, length-take-le, set-split, sets, sets-eq}
 use lib.Ieee.{Float}
 use Rattle.rule.specs.Arith.{_⊕_}
-use Rattle.rule.specs.Lists.{every, countOf, those, placesFrom, sumFrom, forEach, replaced, filled}
+use Rattle.rule.specs.Lists.{every, countOf, those, placesFrom, sumFrom, firstParts, forEach, replaced, filled}
 
 -- ---- a place past the end
 
@@ -90,6 +90,20 @@ places-count test k (a ∷ l) = go (test a) (places-count test (k + 1) l)
     go true h = rw h (omega arith)
     go false h = h ∙ sym (zero-add (countOf test l))
 
+-- ---- the parts that a list is cut into
+
+module _ {A : Type 0} (w : ℕ) where
+  pub parts-count : (n : ℕ) (l : List A) → length (firstParts w n l) ≡ n
+  unfolding firstParts
+  parts-count zero l = refl
+  parts-count (suc n) l = ap suc (parts-count n (drop w l))
+
+  pub part-at : (n i : ℕ) (l d : List A) → i < n → getD (firstParts w n l) i d ≡ take w (drop (w * i) l)
+  unfolding firstParts
+  part-at zero i l d h = absurd (omega (arith, h))
+  part-at (suc n) zero l d h = rw (mul-zero w)
+  part-at (suc n) (suc i) l d h = part-at n i (drop w l) d (omega (arith, h)) ∙ rw (drop-drop (w * i) w l, mul-suc w i, add-comm (w * i) w)
+
 -- ---- a list stored to at each of its places
 
 pub all-set : {A : Type 0} (vs l : List A) → length l ≡ length vs → sets l 0 vs ≡ vs
@@ -150,6 +164,13 @@ module _ {A B : Type 0} (write : A → List B) (w : ℕ) (wide : (a : A) → len
   unfolding forEach
   forEach-length [] = sym (mul-zero w)
   forEach-length (a ∷ l) = rw (length-append, wide a, forEach-length l, mul-suc w (length l)) (omega arith)
+
+  -- cut into parts again, it is what was written for each
+  pub parts-back : (l : List A) (rest : List B) → firstParts w (length l) (forEach write l ++ rest) ≡ map write l
+  unfolding firstParts forEach
+  parts-back [] rest = refl
+  parts-back (a ∷ l) rest =
+      rw (append-assoc (write a) (forEach write l) rest, take-at (write a) (forEach write l ++ rest) w (wide a), drop-at (write a) (forEach write l ++ rest) w (wide a), parts-back l rest)
 
   module _ (l : List A) (entry : List B) where
     -- the lent list after the first i elements

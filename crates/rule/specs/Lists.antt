@@ -1,7 +1,8 @@
--- Lists, looked through from the front: a test of every element, a count, a sum, and what is written for each element or into a part.
+-- Lists, looked through from the front: a test of every element, a count, a sum, the parts that a list is cut into, and what is written for each element
+-- or into a part.
 use mathlib.Core.Bool.{Bool, true, _&&_, cond}
 use mathlib.Core.List.{List, [], _∷_, _++_}
-use Prim.Native.Nat.{ℕ, _+_}
+use Prim.Native.Nat.{ℕ, zero, suc, _+_, _/_}
 use lib.Dec.{ltb}
 use lib.ListN.{length, take, drop}
 use lib.Ieee.{Float}
@@ -29,6 +30,15 @@ placesFrom i test (a ∷ l) = cond (test a) (i ∷ placesFrom (i + 1) test l) (p
 unfoldable pub sumFrom : {A : Type 0} → (A → Float) → Float → List A → Float
 sumFrom term sum [] = sum
 sumFrom term sum (a ∷ l) = sumFrom term (sum ⊕ term a) l
+
+-- the first n parts of w elements each
+unfoldable pub firstParts : {A : Type 0} → (w n : ℕ) → List A → List (List A)
+firstParts w zero l = []
+firstParts w (suc n) l = take w l ∷ firstParts w n (drop w l)
+
+-- all whole parts of w elements; what is left over at the end is no part
+unfoldable pub partsOf : {A : Type 0} → (w : ℕ) → List A → List (List A)
+partsOf w l = firstParts w (length l / w) l
 
 -- what is written for each element, one after the other
 unfoldable pub forEach : {A B : Type 0} → (A → List B) → List A → List B

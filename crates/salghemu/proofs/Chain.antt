@@ -19,7 +19,7 @@ use Rattle.sheet.specs.Marks.{marksOf}
 use Rattle.sheet.specs.declared.model.Model.{Model}
 use Rattle.book.specs.Rule.{Stopped}
 use Rattle.fields.specs.Fields.{wordsOf}
-use Rattle.fields.proofs.Reading.{fields-count}
+use Rattle.fields.proofs.Reading.{words-count}
 use Rattle.records.specs.Options.{optionsRecord, optionsOf, optionsTests, thresh, confidence, iters, optionsAnswer as recordRead, viewOptions}
 use Rattle.records.specs.Marks.{numbersIn}
 use Rattle.records.specs.declared.options.RansacOptions.{RansacOptions}
@@ -40,8 +40,7 @@ filled-front xs l {k} h e = ap (take k) (filled-is xs l h) ∙ take-at xs (drop 
 -- the stop entries
 module _ (bytes : List ℕ) (zeros after : List ℕ) (wide : length zeros ≡ 2001) (is : after ≡ filled (wordsOf bytes) zeros) {n m : ℕ} (small : n ≤ 2000) (count : length bytes ≡ 4 * suc n) (m-is : m ≡ n) where
   words-are : length (wordsOf bytes) ≡ suc n
-  unfolding wordsOf
-  words-are = fields-count 4 (length bytes / 4) bytes ∙ (let c = count in omega (arith, c))
+  words-are = sym (words-count bytes) ∙ (let c = count in omega (arith, c))
 
   words-room : length (wordsOf bytes) ≤ length zeros
   words-room = let w = words-are in omega (arith, w, wide, small)

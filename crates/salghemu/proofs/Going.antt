@@ -2,18 +2,18 @@
 use mathlib.Core.Path.{_≡_, refl, sym, ap, subst, _∙_}
 use mathlib.Core.Bool.{Bool, true, false}
 use mathlib.Core.List.{List, [], _∷_}
-use Prim.Native.Nat.{ℕ, zero, suc, _+_, _*_, _/_, _≤_, _<_}
-use native.Mathlib.Nat.{mul-zero, mul-suc, add-comm}
+use Prim.Native.Nat.{ℕ, _+_, _*_, _/_, _≤_, _<_}
 use native.Mathlib.Numerals.{add-one}
-use native.Mathlib.Omega.{arith}
 use borrow.Author.Tests.{le-leb, lt-leb, ltb-false}
 use lib.Dec.{ltb, eqb}
-use lib.ListN.{length, getD, take, drop, length-map, List·getD-map, drop-of-length-le}
-use lib.Seq.{drop-cons, drop-drop}
+use lib.ListN.{length, take, drop, length-map, List·getD-map, drop-of-length-le}
+use lib.Seq.{drop-cons}
 use lib.Ieee.{Float}
 use Rattle.rule.specs.Order.{firstFailed}
+use Rattle.rule.specs.Lists.{partsOf}
 use Rattle.rule.proofs.Tests.{neither}
 use Rattle.rule.proofs.Order.{first-passed}
+use Rattle.rule.proofs.Lists.{parts-count, part-at}
 use Rattle.sheet.specs.Marks.{marksOf, marksTests}
 use Rattle.sheet.specs.declared.model.Model.{Model}
 use Rattle.book.specs.Score.{Judged}
@@ -31,22 +31,8 @@ use Rattle.pick.specs.Trial.{answerOf, triedWith, stepAnswer}
 use Rattle.pick.specs.declared.run_state.State.{State}
 use Rattle.pick.specs.declared.run_state.Tried.{Tried}
 use Rattle.pick.proofs.Order.{same-judged}
-use Rattle.salghemu.specs.Whole.{firstRecords, recordsIn, callWith, judgedIn, stopOf, viewRan}
+use Rattle.salghemu.specs.Whole.{recordsIn, callWith, judgedIn, stopOf, viewRan}
 use Rattle.salghemu.specs.declared.Ran.the-variants as Ran
-
--- ---- records of w bytes
-
-pub records-count : (w n : ℕ) (l : List ℕ) → length (firstRecords w n l) ≡ n
-unfolding firstRecords
-records-count w zero l = refl
-records-count w (suc n) l = ap suc (records-count w n (drop w l))
-
-pub record-at : (w n i : ℕ) (l : List ℕ) → i < n → getD (firstRecords w n l) i [] ≡ take w (drop (w * i) l)
-unfolding firstRecords
-record-at w zero i l h = absurd (omega (arith, h))
-record-at w (suc n) zero l h = rw (mul-zero w)
-record-at w (suc n) (suc i) l h =
-    record-at w n i (drop w l) (omega (arith, h)) ∙ ap (take w) (drop-drop (w * i) w l ∙ ap (λ k. drop k l) (add-comm w (w * i) ∙ sym (mul-suc w i)))
 
 -- max_iters is at most 100,000 where the options passed
 few-iters : (o : RansacOptions) → 0 ≡ firstFailed (optionsTests o) → o .«max_iters» ≤ 100000
@@ -73,14 +59,14 @@ module _ (o : RansacOptions) (l : List Float) (table trials : List ℕ) where
   judged bytes = judgeOf o n (callWith l table bytes)
 
   js-count : length js ≡ length trials / 152
-  unfolding judgedIn recordsIn
-  js-count = length-map (firstRecords 152 (length trials / 152) trials) judged ∙ records-count 152 (length trials / 152) trials
+  unfolding judgedIn recordsIn partsOf
+  js-count = length-map (recordsIn trials) judged ∙ parts-count 152 (length trials / 152) trials
 
   js-from : (i : ℕ) → i < length trials / 152 → drop i js ≡ judged (take 152 (drop (152 * i) trials)) ∷ drop (i + 1) js
-  unfolding judgedIn recordsIn
+  unfolding judgedIn recordsIn partsOf
   js-from i h =
       drop-cons js i (judged []) (rw js-count h)
-      ∙ rw (List·getD-map judged (firstRecords 152 (length trials / 152) trials) i [], record-at 152 (length trials / 152) i trials h, add-one i)
+      ∙ rw (List·getD-map judged (recordsIn trials) i [], part-at 152 (length trials / 152) i trials [] h, add-one i)
 
   pub record Going (i : ℕ) (s : State) : Type 0 where
     pub options : s .options ≡ o

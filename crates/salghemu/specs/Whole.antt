@@ -3,14 +3,14 @@
 use mathlib.Core.Path.{_≡_}
 use mathlib.Core.Bool.{not, _||_}
 use mathlib.Core.List.{List, [], _∷_, _++_, map}
-use Prim.Native.Nat.{ℕ, zero, suc, _*_, _/_, _%_}
+use Prim.Native.Nat.{ℕ, zero, suc, _*_, _%_}
 use lib.Dec.{ltb, eqb}
-use lib.ListN.{length, take, drop}
+use lib.ListN.{length, drop}
 use lib.Ieee.{Float}
 use Rattle.rule.specs.Refusal.{RECORD, SHAPE, STOPS, NONE}
 use Rattle.rule.specs.Answer.{Answer, refused, gives}
 use Rattle.rule.specs.Order.{Test, firstFailed, room}
-use Rattle.rule.specs.Lists.{forEach}
+use Rattle.rule.specs.Lists.{partsOf, forEach}
 use Rattle.sheet.specs.Marks.{marksOf, point, few}
 use Rattle.sheet.specs.Distance.{modelNumbers}
 use Rattle.sheet.specs.declared.model.Model.{Model}
@@ -63,13 +63,9 @@ runTests f winner indices = optionsRecord (f .options) ∷ orderOf (optionsOf (f
 
 -- ---- the trials
 
--- the first n records of w bytes
-unfoldable pub firstRecords : (w n : ℕ) → List ℕ → List (List ℕ)
-firstRecords w zero l = []
-firstRecords w (suc n) l = take w l ∷ firstRecords w n (drop w l)
-
+-- the records, 152 bytes each
 unfoldable pub recordsIn : List ℕ → List (List ℕ)
-recordsIn trials = firstRecords 152 (length trials / 152) trials
+recordsIn trials = partsOf 152 trials
 
 -- the same trials as calls, one by one
 unfoldable pub callWith : List Float → List ℕ → List ℕ → Call
