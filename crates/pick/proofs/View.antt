@@ -1,11 +1,14 @@
--- The views of the state and of what the calls answer tell any two values apart, so a contract on the view fixes the answer. Assumes nothing.
-use mathlib.Core.Path.{_≡_, ap, ap₂}
+-- The views of the state and of what the calls answer can be taken back, so they tell any two values apart, and a contract on the view fixes the answer. A
+-- state's view, and a trial's, leave nothing out besides: what a trial's contract asks for can be had. Assumes nothing.
+use mathlib.Core.Path.{_≡_, refl, ap}
+use Prim.Native.Nat.{ℕ}
+use Rattle.rule.specs.Answer.{Answer as Answering, refused, gives}
+use Rattle.rule.proofs.Views.{told-apart}
 use Rattle.sheet.specs.declared.model.Model.{Model}
 use Rattle.book.specs.Book as Book
 use Rattle.pick.specs.Run.{Run, Answer, viewWinner, viewBest, bookOf, viewState, viewOutcome, viewTried}
 use Rattle.pick.specs.Opening.{viewOpened}
 use Rattle.pick.specs.Indices.{viewIndexed}
-use Rattle.pick.specs.declared.run_state.Winner.{Winner}
 use Rattle.pick.specs.declared.run_state.Best.{Best}
 use Rattle.pick.specs.declared.run_state.Best.the-variants as Bests
 use Rattle.pick.specs.declared.run_state.State.{State}
@@ -17,75 +20,112 @@ use Rattle.pick.specs.declared.opening.Opened.the-variants as Openings
 use Rattle.pick.specs.declared.indices.Indexed.{Indexed}
 use Rattle.pick.specs.declared.indices.Indexed.the-variants as Indices
 
-pub winner-one : (x y : Winner) → viewWinner x ≡ viewWinner y → x ≡ y
-unfolding viewWinner
-winner-one x y h = ap (λ (w : Book.Winner Model). record { model = w .model; count = w .count; rms = w .rms; number = w .number }) h
+-- ---- the winner
+
+unfoldable bestOf : Book.Held Model → Best
+bestOf Book.none = Bests.Nothing
+bestOf (Book.held w) = Bests.Held (record { model = w .model; count = w .count; rms = w .rms; number = w .number })
+
+best-back : (b : Best) → bestOf (viewBest b) ≡ b
+unfolding bestOf viewBest viewWinner
+best-back Bests.Nothing = refl
+best-back (Bests.Held w) = refl
+
+best-there : (h : Book.Held Model) → viewBest (bestOf h) ≡ h
+unfolding bestOf viewBest viewWinner
+best-there Book.none = refl
+best-there (Book.held w) = refl
 
 pub best-one : (x y : Best) → viewBest x ≡ viewBest y → x ≡ y
-unfolding viewBest
-best-one Bests.Nothing Bests.Nothing h = cc
-best-one Bests.Nothing (Bests.Held w) h = cc
-best-one (Bests.Held v) Bests.Nothing h = cc
-best-one (Bests.Held v) (Bests.Held w) h =
-    let e : viewWinner v ≡ viewWinner w = cc in
-    ap Bests.Held (winner-one v w e)
+best-one = told-apart viewBest bestOf best-back
+
+-- ---- the state
+
+unfoldable stateOf : Run → State
+stateOf r =
+    record {
+      options = r .options;
+      n = r .n;
+      read = r .book .read;
+      empty = r .book .empties;
+      few = r .book .fews;
+      scored = r .book .scores;
+      bound = r .book .bound;
+      winner = bestOf (r .book .winner);
+    }
+
+state-back : (s : State) → stateOf (viewState s) ≡ s
+unfolding stateOf viewState bookOf
+state-back s = rw (best-back (s .winner))
+
+state-there : (r : Run) → viewState (stateOf r) ≡ r
+unfolding stateOf viewState bookOf
+state-there r = rw (best-there (r .book .winner))
 
 pub state-one : (x y : State) → viewState x ≡ viewState y → x ≡ y
-unfolding viewState bookOf
-state-one x y h =
-    let w = best-one (x .winner) (y .winner) (ap (λ (r : Run). r .book .winner) h) in
-    ap₂
-    (λ (r : Run) b. record { options = r .options; n = r .n; read = r .book .read; empty = r .book .empties; few = r .book .fews; scored = r .book .scores; bound = r .book .bound; winner = b })
-    h
-    w
+state-one = told-apart viewState stateOf state-back
+
+pub state-onto : (r : Run) → (s : State) × (viewState s ≡ r)
+state-onto r = (stateOf r, state-there r)
+
+-- ---- a trial's answer
+
+unfoldable outcomeOf : Book.Outcome → Outcome
+outcomeOf (Book.is-refused k) = Outcomes.Refused k
+outcomeOf Book.is-empty = Outcomes.Empty
+outcomeOf (Book.is-few k) = Outcomes.Few k
+outcomeOf (Book.is-held k q) = Outcomes.Held k q
+outcomeOf (Book.is-won k q) = Outcomes.Won k q
+
+outcome-back : (x : Outcome) → outcomeOf (viewOutcome x) ≡ x
+unfolding outcomeOf viewOutcome
+outcome-back (Outcomes.Refused k) = refl
+outcome-back Outcomes.Empty = refl
+outcome-back (Outcomes.Few k) = refl
+outcome-back (Outcomes.Held k q) = refl
+outcome-back (Outcomes.Won k q) = refl
+
+outcome-there : (x : Book.Outcome) → viewOutcome (outcomeOf x) ≡ x
+unfolding outcomeOf viewOutcome
+outcome-there (Book.is-refused k) = refl
+outcome-there Book.is-empty = refl
+outcome-there (Book.is-few k) = refl
+outcome-there (Book.is-held k q) = refl
+outcome-there (Book.is-won k q) = refl
 
 pub outcome-one : (x y : Outcome) → viewOutcome x ≡ viewOutcome y → x ≡ y
-unfolding viewOutcome
-outcome-one (Outcomes.Refused j) (Outcomes.Refused k) h = cc
-outcome-one (Outcomes.Refused j) Outcomes.Empty h = cc
-outcome-one (Outcomes.Refused j) (Outcomes.Few k) h = cc
-outcome-one (Outcomes.Refused j) (Outcomes.Held k q) h = cc
-outcome-one (Outcomes.Refused j) (Outcomes.Won k q) h = cc
-outcome-one Outcomes.Empty (Outcomes.Refused k) h = cc
-outcome-one Outcomes.Empty Outcomes.Empty h = cc
-outcome-one Outcomes.Empty (Outcomes.Few k) h = cc
-outcome-one Outcomes.Empty (Outcomes.Held k q) h = cc
-outcome-one Outcomes.Empty (Outcomes.Won k q) h = cc
-outcome-one (Outcomes.Few j) (Outcomes.Refused k) h = cc
-outcome-one (Outcomes.Few j) Outcomes.Empty h = cc
-outcome-one (Outcomes.Few j) (Outcomes.Few k) h = cc
-outcome-one (Outcomes.Few j) (Outcomes.Held k q) h = cc
-outcome-one (Outcomes.Few j) (Outcomes.Won k q) h = cc
-outcome-one (Outcomes.Held j p) (Outcomes.Refused k) h = cc
-outcome-one (Outcomes.Held j p) Outcomes.Empty h = cc
-outcome-one (Outcomes.Held j p) (Outcomes.Few k) h = cc
-outcome-one (Outcomes.Held j p) (Outcomes.Held k q) h = cc
-outcome-one (Outcomes.Held j p) (Outcomes.Won k q) h = cc
-outcome-one (Outcomes.Won j p) (Outcomes.Refused k) h = cc
-outcome-one (Outcomes.Won j p) Outcomes.Empty h = cc
-outcome-one (Outcomes.Won j p) (Outcomes.Few k) h = cc
-outcome-one (Outcomes.Won j p) (Outcomes.Held k q) h = cc
-outcome-one (Outcomes.Won j p) (Outcomes.Won k q) h = cc
+outcome-one = told-apart viewOutcome outcomeOf outcome-back
 
 pub tried-one : (x y : Tried) → viewTried x ≡ viewTried y → x ≡ y
 unfolding viewTried
-tried-one x y h =
-    let s = state-one (x .state) (y .state) (ap (λ (r : Answer). r .run) h) in
-    let o = outcome-one (x .outcome) (y .outcome) (ap (λ (r : Answer). r .outcome) h) in
-    ap₂ (λ a b. record { state = a; outcome = b }) s o
+tried-one = told-apart viewTried (λ a. record { state = stateOf (a .run); outcome = outcomeOf (a .outcome) }) (λ x. rw (state-back (x .state), outcome-back (x .outcome)))
+
+pub tried-onto : (a : Answer) → (t : State) × ((x : Outcome) × (viewTried (record { state = t; outcome = x }) ≡ a))
+unfolding viewTried
+tried-onto a = (stateOf (a .run), (outcomeOf (a .outcome), rw (state-there (a .run), outcome-there (a .outcome))))
+
+-- ---- the opening's answer and the indices'
+
+openedOf : Answering Run → Opened
+openedOf (gives r) = Openings.Open (stateOf r)
+openedOf (refused k) = Openings.Refused k
+
+opened-back : (x : Opened) → openedOf (viewOpened x) ≡ x
+unfolding viewOpened openedOf
+opened-back (Openings.Open s) = ap Openings.Open (state-back s)
+opened-back (Openings.Refused k) = refl
 
 pub opened-one : (x y : Opened) → viewOpened x ≡ viewOpened y → x ≡ y
-unfolding viewOpened
-opened-one (Openings.Open s) (Openings.Open t) h =
-    let e : viewState s ≡ viewState t = cc in
-    ap Openings.Open (state-one s t e)
-opened-one (Openings.Open s) (Openings.Refused k) h = cc
-opened-one (Openings.Refused j) (Openings.Open t) h = cc
-opened-one (Openings.Refused j) (Openings.Refused k) h = cc
+opened-one = told-apart viewOpened openedOf opened-back
+
+indexedOf : Answering ℕ → Indexed
+indexedOf (gives n) = Indices.Written n
+indexedOf (refused k) = Indices.Refused k
+
+indexed-back : (x : Indexed) → indexedOf (viewIndexed x) ≡ x
+unfolding viewIndexed indexedOf
+indexed-back (Indices.Written n) = refl
+indexed-back (Indices.Refused k) = refl
 
 pub indexed-one : (x y : Indexed) → viewIndexed x ≡ viewIndexed y → x ≡ y
-unfolding viewIndexed
-indexed-one (Indices.Written a) (Indices.Written b) h = cc
-indexed-one (Indices.Written a) (Indices.Refused k) h = cc
-indexed-one (Indices.Refused j) (Indices.Written b) h = cc
-indexed-one (Indices.Refused j) (Indices.Refused k) h = cc
+indexed-one = told-apart viewIndexed indexedOf indexed-back
