@@ -2,7 +2,8 @@
 --
 -- `picking-rule`: after any list of calls from an opening, each handed the state that the last gave back, every answer, and the state's winner, counts and
 -- bound, are those of document 01's book; trials read = empty + few + scored; and the winner is the best of the scored trials that the answers show.
--- `winner-has`: what every scored trial with the right marks and stops has, the winner has; its count and rms are its model's own (`judge-own`).
+-- `winner-has`: what every scored trial with the right marks and stops has, the book's winner has; its count and rms are its model's own (`judge-own`).
+-- `callable`: where every call has an answer, every list of calls has its answers, and a state at the end.
 -- `run-exact`: the whole run reads exactly to the bound, the end, or a trial refused before either.
 --
 -- A family gives `step`, that each call does what the book's does by the family's own `judge`, and `clear-rms`, which is `judge-clear`. Assumes nothing.
@@ -21,7 +22,7 @@ use Rattle.rule.specs.Lists.{every}
 use Rattle.rule.specs.Refusal.{ENDED}
 use Rattle.book.specs.Score.{Options, Trial, unfitted, fitted, refitted, countIn, rmsIn, Standing, Judged, turned-down, empty, few, scored, countUnder, standing, judgedBy, standsOf, judgeTrial}
 use Rattle.book.specs.Book.{Winner, Held, none, held, Book, Outcome, is-refused, is-won, is-held, beats, winnerAfter, scoredAnswer, entered, hasEnded, called, fresh, bookAfter, answersOf}
-use Rattle.book.specs.Calls.{isClosed, tried, Called, no-call, then, isRefusal, Carried}
+use Rattle.book.specs.Calls.{tried, Called, no-call, then, isRefusal, Carried}
 use Rattle.book.specs.Rule.{Kept, Stopped, stopped, broken, runOver, ReadTo}
 use Rattle.book.proofs.Clear.{rms-clear}
 use Rattle.book.proofs.Along.{called-open, Counts, counts-fresh, counts-next, counts-after, tried-called, ClearCall, ClearCalls, picked-after}
@@ -106,52 +107,60 @@ module _ {S C A M : Type 0} (Tried : S → C → S → A → Type 0) (book : S �
               },
             )
 
-    -- ---- what the winner has
+-- ---- where every call has an answer, every list of calls has its answers
 
-    module _ (Good : C → Type 0) (P : M → ℕ → Float → Type 0) (own : (c : C) → Good c → (s : Standing M) → judge c ≡ scored s → P (s .model) (s .count) (s .rms)) where
-      abbrev Has : Held M → Type 0
-      Has none = Unit {0}
-      Has (held w) = P (w .model) (w .count) (w .rms)
+module _ {S C A : Type 0} (Tried : S → C → S → A → Type 0) (answered : (s : S) (c : C) → (t : S) × ((a : A) × Tried s c t a)) where
+  pub callable : (s : S) (cs : List C) → (z : S) × ((answers : List A) × Called Tried s cs answers z)
+  callable s [] = (s, ([], no-call))
+  callable s (c ∷ cs) =
+      let f = answered s c in
+      let r = callable (f .0) cs in
+      (r .0, (f .1 .0 ∷ r .1 .0, then (f .1 .1) (r .1 .1)))
 
-      has-scored : (c : C) (s : Standing M) → judge c ≡ scored s → (number : ℕ) (before : Held M) → Has before
-          → (isRefusal (scoredAnswer s before) ≡ false → Good c) → Has (winnerAfter s number before)
-      unfolding winnerAfter scoredAnswer isRefusal
-      has-scored c s e number before h good = go (beats s before) good
-        where
-          go : (t : Bool) → (isRefusal (cond t (is-won (s .count) (s .rms)) (is-held (s .count) (s .rms))) ≡ false → Good c)
-              → Has (cond t (held (record { model = s .model; count = s .count; rms = s .rms; number = number })) before)
-          go true g = own c (g refl) s e
-          go false g = h
+-- ---- what the winner has
 
-      has-entered : (c : C) (b : Book M) (j : Judged M) → judge c ≡ j → Has (b .winner) → (isRefusal (entered o b j .answer) ≡ false → Good c) → Has (entered o b j .book .winner)
-      unfolding entered
-      has-entered c b (turned-down k) e h good = h
-      has-entered c b empty e h good = h
-      has-entered c b (few count) e h good = h
-      has-entered c b (scored s) e h good = has-scored c s e (suc (b .read)) (b .winner) h good
+module _ {C M : Type 0} (o : Options) (judge : C → Judged M) (Good : C → Type 0) (P : M → ℕ → Float → Type 0)
+    (own : (c : C) → Good c → (s : Standing M) → judge c ≡ scored s → P (s .model) (s .count) (s .rms))
+  where
+    abbrev Has : Held M → Type 0
+    Has none = Unit {0}
+    Has (held w) = P (w .model) (w .count) (w .rms)
 
-      has-tried : (c : C) (b : Book M) → Has (b .winner) → (isRefusal (tried o b (judge c) .answer) ≡ false → Good c) → Has (tried o b (judge c) .book .winner)
-      unfolding tried
-      has-tried c b h good = go (isClosed b) good
-        where
-          go : (t : Bool) → (isRefusal (cond t (record { book = b; answer = is-refused ENDED }) (entered o b (judge c)) .answer) ≡ false → Good c)
-              → Has (cond t (record { book = b; answer = is-refused ENDED }) (entered o b (judge c)) .book .winner)
-          go true g = h
-          go false g = has-entered c b (judge c) refl h g
+    has-scored : (c : C) (s : Standing M) → judge c ≡ scored s → (number : ℕ) (before : Held M) → Has before
+        → (isRefusal (scoredAnswer s before) ≡ false → Good c) → Has (winnerAfter s number before)
+    unfolding winnerAfter scoredAnswer isRefusal
+    has-scored c s e number before h good = go (beats s before) good
+      where
+        go : (t : Bool) → (isRefusal (cond t (is-won (s .count) (s .rms)) (is-held (s .count) (s .rms))) ≡ false → Good c)
+            → Has (cond t (held (record { model = s .model; count = s .count; rms = s .rms; number = number })) before)
+        go true g = own c (g refl) s e
+        go false g = h
 
-      has-called : {s z : S} {cs : List C} {answers : List A} → Run s → Has (book s .winner) → Called Tried s cs answers z → Carried Good view cs answers → Has (book z .winner)
-      has-called run h no-call Carried.no-call = h
-      has-called run h (then {s = s} {t = t} {c = c} {a = a} tr more) (Carried.then good goods) =
-          let n = step s t c a run tr in
-          let b : book t ≡ tried o (book s) (judge c) .book = ap (λ x. x .book) (n .1) in
-          let g : view a ≡ tried o (book s) (judge c) .answer = ap (λ x. x .answer) (n .1) in
-          has-called (n .0) (rw b (has-tried c (book s) h (λ q. good (rw g q)))) more goods
+    has-entered : (c : C) (b : Book M) (j : Judged M) → judge c ≡ j → Has (b .winner) → (isRefusal (entered o b j .answer) ≡ false → Good c) → Has (entered o b j .book .winner)
+    unfolding entered
+    has-entered c b (turned-down k) e h good = h
+    has-entered c b empty e h good = h
+    has-entered c b (few count) e h good = h
+    has-entered c b (scored s) e h good = has-scored c s e (suc (b .read)) (b .winner) h good
 
-      pub winner-has : (s₀ z : S) (cs : List C) (answers : List A) → Run s₀ → book s₀ ≡ fresh o → Called Tried s₀ cs answers z → Carried Good view cs answers
-          → (w : Winner M) → book z .winner ≡ held w → P (w .model) (w .count) (w .rms)
-      unfolding fresh
-      winner-has s₀ z cs answers run opened calls goods w e =
-          subst Has e (has-called run (subst (λ (b : Book M). Has (b .winner)) (sym opened) tt) calls goods)
+    has-called : (c : C) (b : Book M) → Has (b .winner) → (isRefusal (called o b (judge c) .answer) ≡ false → Good c) → Has (called o b (judge c) .book .winner)
+    unfolding called
+    has-called c b h good = go (hasEnded b) good
+      where
+        go : (t : Bool) → (isRefusal (cond t (record { book = b; answer = is-refused ENDED }) (entered o b (judge c)) .answer) ≡ false → Good c)
+            → Has (cond t (record { book = b; answer = is-refused ENDED }) (entered o b (judge c)) .book .winner)
+        go true g = h
+        go false g = has-entered c b (judge c) refl h g
+
+    has-after : (cs : List C) (b : Book M) → Has (b .winner) → Carried Good cs (answersOf o b (map judge cs)) → Has (bookAfter o b (map judge cs) .winner)
+    unfolding answersOf bookAfter
+    has-after [] b h carried = h
+    has-after (c ∷ cs) b h (Carried.then good goods) = has-after cs (called o b (judge c) .book) (has-called c b h good) goods
+
+    pub winner-has : (cs : List C) → Carried Good cs (answersOf o (fresh o) (map judge cs)) → (w : Winner M) → bookAfter o (fresh o) (map judge cs) .winner ≡ held w
+        → P (w .model) (w .count) (w .rms)
+    unfolding fresh
+    winner-has cs carried w e = subst Has e (has-after cs (fresh o) tt carried)
 
 -- ---- the whole run
 

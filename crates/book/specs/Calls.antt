@@ -42,7 +42,8 @@ numberIn (is-few count) = 0
 numberIn (is-held count rms) = 0
 numberIn (is-won count rms) = 0
 
--- Every call that is not refused carries what it should; one that is may carry anything.
-pub data Carried {C A : Type 0} (Good : C → Type 0) (view : A → Outcome) : List C → List A → Type 0 where
-  no-call : Carried Good view [] []
-  then : {c : C} {a : A} {cs : List C} {rest : List A} → (isRefusal (view a) ≡ false → Good c) → Carried Good view cs rest → Carried Good view (c ∷ cs) (a ∷ rest)
+-- Every call that is not refused carries what it should; one that is may carry anything. The answers are the book's (`answersOf`): what a program
+-- answered does not come into it.
+pub data Carried {C : Type 0} (Good : C → Type 0) : List C → List Outcome → Type 0 where
+  no-call : Carried Good [] []
+  then : {c : C} {a : Outcome} {cs : List C} {rest : List Outcome} → (isRefusal a ≡ false → Good c) → Carried Good cs rest → Carried Good (c ∷ cs) (a ∷ rest)

@@ -11,20 +11,22 @@ use Rattle.rule.specs.Answer.{gives}
 use Rattle.rule.specs.Order.{firstFailed, decided, ifPassed}
 use Rattle.rule.specs.Arith.{clear}
 use Rattle.rule.proofs.Order.{decided-gives, done, first-passed, decided-none}
+use Rattle.rule.proofs.Lists.{places-count}
 use Rattle.sheet.specs.Marks.{marksOf, markAt, noMark}
 use Rattle.sheet.specs.Distance.{distanceOf, inlier}
 use Rattle.sheet.specs.declared.model.Model.{Model}
 use Rattle.sheet.proofs.Places.{count}
 use Rattle.book.specs.Score.{close, countIn, rmsIn, Standing, Judged, scored, turned-down}
-use Rattle.book.specs.Book.{Winner, held, Entered, fresh}
-use Rattle.book.specs.Calls.{tried, Called, Carried}
+use Rattle.book.specs.Book.{Winner, held, Book, Entered, fresh, bookAfter}
+use Rattle.book.specs.Calls.{tried, Called}
 use Rattle.book.specs.Rule.{Kept}
-use Rattle.book.proofs.Picked.{judge-own, judge-clear, picking-rule, winner-has}
+use Rattle.book.proofs.Picked.{judge-own, judge-clear, picking-rule, callable, winner-has}
 use Rattle.records.specs.Options.{optionsRecord, optionsOf}
 use Rattle.records.specs.Trial.{trialOf}
 use Rattle.records.specs.declared.options.RansacOptions.{RansacOptions}
 use Rattle.score.specs.Distances.{distancesOf, indicesIn}
 use Rattle.score.proofs.Walk.{ds-length, ds-at}
+use Rattle.salghemu.specs.Whole.{laidOver}
 use Rattle.judge.specs.Judging.{ruleOf, Call, callTests, worth, judgedBy, judgeOf}
 use Rattle.pick.specs.Run.{Run, Answer, viewBest, bookOf, viewState, viewOutcome, viewTried}
 use Rattle.pick.specs.Opening.{openingTests, freshRun, openingAnswer, recordAnswer, viewOpened}
@@ -36,7 +38,9 @@ use Rattle.pick.specs.declared.run_state.Outcome.{Outcome}
 use Rattle.pick.specs.declared.indices.Indexed.{Indexed}
 use Rattle.pick.specs.declared.indices.Indexed.the-variants.{Written}
 use Rattle.pick.proofs.Order.{opened-iters, call-short}
-use Rattle.demand.specs.Demand.{Opening, Tried, Carries, Exactly, AfterCalls}
+use Rattle.pick.proofs.View.{indexed-one, tried-onto}
+use Rattle.pick.proofs.Accepted.{order-passes, steps-as-trial}
+use Rattle.demand.specs.Demand.{OpensBy, Tried, Stepped, Indexes, Opening, Carries, judged, CarriedBy, Exactly, IndicesGiven, IndexedAs, AfterCalls}
 use Rattle.demand.proofs.Placed.{places-exactly}
 
 -- ---- a judged call that is scored
@@ -49,8 +53,7 @@ by-number (suc k) w t e = absurd (let z : _≡_ {A = ℕ} 0 1 = cc in omega (ari
 -- ---- the opening
 
 -- by a record
-pub record-opens : (bytes : List ℕ) (marks : List Float) (stops : List ℕ) (s₀ : State) → viewOpened (Open s₀) ≡ recordAnswer bytes marks stops
-    → Opening (optionsOf bytes) marks stops s₀
+pub record-opens : (bytes : List ℕ) (marks : List Float) (stops : List ℕ) (s₀ : State) → OpensBy bytes marks stops (Open s₀) → Opening (optionsOf bytes) marks stops s₀
 unfolding viewOpened recordAnswer openingAnswer optionsRecord
 record-opens bytes marks stops s₀ e =
     let d = decided-gives (firstFailed (optionsRecord bytes ∷ openingTests (optionsOf bytes) marks stops)) e in
@@ -118,48 +121,68 @@ module _ (o : RansacOptions) (marks : List Float) (stops : List ℕ) (s₀ : Sta
 
   -- ---- the indices from a state of the run
 
-  module _ (s : State) (of : Of s) (w : Winner Model) (holds : viewBest (s .winner) ≡ held w) (l : List Float) (entry : List ℕ) where
-    abbrev ds : List Float
-    ds = distancesOf l (w .model)
+  module _ (s : State) (of : Of s) (w : Winner Model) (holds : viewBest (s .winner) ≡ held w) where
+    module _ (l : List Float) where
+      abbrev ds : List Float
+      ds = distancesOf l (w .model)
 
-    abbrev xs : List ℕ
-    xs = indicesIn (o .thresh) ds
+      abbrev xs : List ℕ
+      xs = indicesIn (o .thresh) ds
 
-    abbrev order : ℕ
-    order = firstFailed (marksOrder (s .n) l (length entry))
+      inlier-at : (i : ℕ) → close (o .thresh) (getD ds i (distanceOf (w .model) noMark)) ≡ inlier (w .model) (o .thresh) (markAt l i)
+      unfolding close inlier
+      inlier-at i = rw (ds-at (o .thresh) l (w .model) i)
 
-    answer-is : indicesAnswer (viewState s) l entry ≡ decided order (length xs)
-    unfolding indicesAnswer viewState bookOf winnerAnswer underAnswer
-    answer-is = rw (holds, of .0)
+      exact : Exactly (length (marksOf l)) (λ i. inlier (w .model) (o .thresh) (markAt l i)) xs
+      unfolding indicesIn
+      exact =
+          let e = places-exactly (close (o .thresh)) (distanceOf (w .model) noMark) ds in
+          let long = ds-length (o .thresh) l (w .model) in
+          record {
+            all = λ i h t. e .all i (rw long h) (inlier-at i ∙ t);
+            no-others = λ i m. (rw (← long) (e .no-others i m .0), sym (inlier-at i) ∙ e .no-others i m .1);
+            ascending = e .ascending;
+          }
 
-    pub after-is : indicesAfter (viewState s) l entry ≡ ifPassed order (xs ++ drop (length xs) entry) entry
-    unfolding indicesAfter viewState bookOf winnerAfter underAfter
-    after-is = rw (holds, of .0)
+      module _ (entry : List ℕ) where
+        abbrev order : ℕ
+        order = firstFailed (marksOrder (s .n) l (length entry))
 
-    inlier-at : (i : ℕ) → close (o .thresh) (getD ds i (distanceOf (w .model) noMark)) ≡ inlier (w .model) (o .thresh) (markAt l i)
-    unfolding close inlier
-    inlier-at i = rw (ds-at (o .thresh) l (w .model) i)
+        answer-is : indicesAnswer (viewState s) l entry ≡ decided order (length xs)
+        unfolding indicesAnswer viewState bookOf winnerAnswer underAnswer
+        answer-is = rw (holds, of .0)
 
-    exact : Exactly (length (marksOf l)) (λ i. inlier (w .model) (o .thresh) (markAt l i)) xs
-    unfolding indicesIn
-    exact =
-        let e = places-exactly (close (o .thresh)) (distanceOf (w .model) noMark) ds in
-        let long = ds-length (o .thresh) l (w .model) in
+        after-is : indicesAfter (viewState s) l entry ≡ ifPassed order (xs ++ drop (length xs) entry) entry
+        unfolding indicesAfter viewState bookOf winnerAfter underAfter
+        after-is = rw (holds, of .0)
+
+        indices-exact : (after : List ℕ) (r : Indexed) → Indexes s l entry r after → (k : ℕ) → r ≡ Written k
+            → Exactly (length (marksOf l)) (λ i. inlier (w .model) (o .thresh) (markAt l i)) (take k after) × (drop k after ≡ drop k entry)
+        unfolding viewIndexed
+        indices-exact after r call k e =
+            let d = decided-gives order (ap viewIndexed (sym e) ∙ call .answers ∙ answer-is) in
+            let whole : after ≡ xs ++ drop (length xs) entry = call .leaves ∙ after-is ∙ sym (done (xs ++ drop (length xs) entry) entry (sym (d .0))) in
+            let front : take k after ≡ xs = ap (take k) whole ∙ take-at xs (drop (length xs) entry) k (sym (d .1)) in
+            let back : drop k after ≡ drop k entry = ap (drop k) whole ∙ drop-at xs (drop (length xs) entry) k (sym (d .1)) ∙ ap (λ j. drop j entry) (sym (d .1)) in
+            (subst (λ ys. Exactly (length (marksOf l)) (λ i. inlier (w .model) (o .thresh) (markAt l i)) ys) (sym front) exact, back)
+
+        -- where the order passes they are given
+        given-all : 0 ≡ order → (after : List ℕ) (r : Indexed) → Indexes s l entry r after → (r ≡ Written (length xs)) × (after ≡ laidOver xs entry)
+        unfolding viewIndexed laidOver
+        given-all passed after r call =
+            (indexed-one r (Written (length xs)) (call .answers ∙ answer-is ∙ sym (decided-none (length xs) passed)), call .leaves ∙ after-is ∙ sym (done (xs ++ drop (length xs) entry) entry passed))
+
+    -- over the opening's marks they are given
+    pub given-as : IndexedAs s marks (indicesIn (o .thresh) (distancesOf marks (w .model)))
+    given-as entry after r call room-for = given-all marks entry (order-passes o marks stops s₀ opening (s .n) (length entry) (of .1) room-for) after r call
+
+    indices-of : w .count ≡ countIn (o .thresh) (distancesOf marks (w .model)) → IndicesGiven o marks s w
+    unfolding indicesIn countIn
+    indices-of own =
         record {
-          all = λ i h t. e .all i (rw long h) (inlier-at i ∙ t);
-          no-others = λ i m. (rw (← long) (e .no-others i m .0), sym (inlier-at i) ∙ e .no-others i m .1);
-          ascending = e .ascending;
+          written = λ entry after r call room-for. given-as entry after r call room-for .0 ∙ ap Written (places-count (close (o .thresh)) 0 (distancesOf marks (w .model)) ∙ sym own);
+          given = λ l entry after r call k e. indices-exact l entry after r call k e;
         }
-
-    indices-exact : (after : List ℕ) (r : Indexed) → viewIndexed r ≡ indicesAnswer (viewState s) l entry → after ≡ indicesAfter (viewState s) l entry → (k : ℕ) → r ≡ Written k
-        → Exactly (length (marksOf l)) (λ i. inlier (w .model) (o .thresh) (markAt l i)) (take k after) × (drop k after ≡ drop k entry)
-    unfolding viewIndexed
-    indices-exact after r answer is k e =
-        let d = decided-gives order (ap viewIndexed (sym e) ∙ answer ∙ answer-is) in
-        let whole : after ≡ xs ++ drop (length xs) entry = is ∙ after-is ∙ sym (done (xs ++ drop (length xs) entry) entry (sym (d .0))) in
-        let front : take k after ≡ xs = ap (take k) whole ∙ take-at xs (drop (length xs) entry) k (sym (d .1)) in
-        let back : drop k after ≡ drop k entry = ap (drop k) whole ∙ drop-at xs (drop (length xs) entry) k (sym (d .1)) ∙ ap (λ j. drop j entry) (sym (d .1)) in
-        (subst (λ ys. Exactly (length (marksOf l)) (λ i. inlier (w .model) (o .thresh) (markAt l i)) ys) (sym front) exact, back)
 
   -- ---- after a list of calls
 
@@ -170,14 +193,34 @@ module _ (o : RansacOptions) (marks : List Float) (stops : List ℕ) (s₀ : Sta
       → (t .count ≡ countIn (o .thresh) (distancesOf marks (t .model))) × (t .rms ≡ rmsIn (o .thresh) (distancesOf marks (t .model)))
   own-of c good t e = subst (λ (l : List Float). (t .count ≡ countIn (o .thresh) (distancesOf l (t .model))) × (t .rms ≡ rmsIn (o .thresh) (distancesOf l (t .model)))) (good .same-marks) (own-judged c t e)
 
-  winner-of : (s : State) (w : Winner Model) → viewBest (s .winner) ≡ held w → bookOf s .winner ≡ held w
+  -- the state's winner is the book's
+  winner-of : (s : State) (calls : List Call) → bookOf s ≡ bookAfter (ruleOf o) (fresh (ruleOf o)) (judged o marks calls) → (w : Winner Model) → viewBest (s .winner) ≡ held w
+      → bookAfter (ruleOf o) (fresh (ruleOf o)) (judged o marks calls) .winner ≡ held w
   unfolding bookOf
-  winner-of s w h = h
+  winner-of s calls e w h = ap (λ (b : Book Model). b .winner) (sym e) ∙ h
 
-  pub calls-after : (s : State) (calls : List Call) (answers : List Outcome) → Called Tried s₀ calls answers s → Carried (Carries marks stops) viewOutcome calls answers → AfterCalls o marks stops calls answers s
+  abbrev Own : Model → ℕ → Float → Type 0
+  Own m k x = (k ≡ countIn (o .thresh) (distancesOf marks m)) × (x ≡ rmsIn (o .thresh) (distancesOf marks m))
+
+  pub calls-after : (s : State) (calls : List Call) (answers : List Outcome) → Called Tried s₀ calls answers s → CarriedBy o marks stops calls → AfterCalls o marks calls answers s
   calls-after s calls answers chain carried =
       record {
-        kept = after-list s calls answers chain .1;
-        own = λ w h. winner-has Tried bookOf viewOutcome (ruleOf o) (judgeOf o n) Of step (Carries marks stops) (λ m k x. (k ≡ countIn (o .thresh) (distancesOf marks m)) × (x ≡ rmsIn (o .thresh) (distancesOf marks m))) own-of s₀ s calls answers of-opened fresh-opened chain carried w (winner-of s w h);
-        indices = record { given = λ w h l entry after r answer is k e. indices-exact s (after-list s calls answers chain .0) w h l entry after r answer is k e };
+        kept = listed .1;
+        own = own;
+        indices = λ w h. indices-of s (listed .0) w h (own w h .0);
       }
+    where
+      listed : Of s × Kept (ruleOf o) (judged o marks calls) (map viewOutcome answers) (bookOf s)
+      listed = after-list s calls answers chain
+
+      own : (w : Winner Model) → viewBest (s .winner) ≡ held w → Own (w .model) (w .count) (w .rms)
+      own w h = winner-has (ruleOf o) (judgeOf o n) (Carries marks stops) Own own-of calls carried w (winner-of s calls (listed .1 .booked) w h)
+
+  -- a trial without test 6
+  pub stepped-tried : (s t : State) (c : Call) (x : Outcome) → c .marks ≡ marks → Stepped s c t x → Tried s c t x
+  stepped-tried s t c x e h = h ∙ steps-as-trial o marks stops s₀ opening s c e
+
+-- ---- every call has an answer
+
+pub calls-answered : (s : State) (calls : List Call) → (z : State) × ((answers : List Outcome) × Called Tried s calls answers z)
+calls-answered = callable Tried (λ s c. tried-onto (trialAnswer (viewState s) c))

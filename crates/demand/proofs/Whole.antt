@@ -1,20 +1,20 @@
 -- The whole run of the third demand. Assumes nothing.
 use mathlib.Core.Path.{_≡_, refl, sym, ap, subst, _∙_}
 use mathlib.Core.Bool.{Bool, true, false, not, _&&_}
-use mathlib.Core.Logic.{_⊎_, ⊎-elim}
-use mathlib.Core.List.{List, [], _∷_, _++_, map}
+use mathlib.Core.Logic.{⊎-elim}
+use mathlib.Core.List.{List, [], _∷_, map}
 use Prim.Native.Nat.{ℕ, zero, suc, _*_, _%_, _≤_}
 use native.Mathlib.Omega.{arith}
 use borrow.Author.Tests.{eq-eqb, le-ltb, eqb-true, ltb-false, not-false}
 use lib.Dec.{ltb, eqb}
-use lib.ListN.{length, take, drop}
+use lib.ListN.{length, take}
 use lib.Ieee.{Float}
 use Rattle.rule.specs.Refusal.{NONE}
 use Rattle.rule.specs.Answer.{refused, gives}
-use Rattle.rule.specs.Order.{firstFailed, room}
+use Rattle.rule.specs.Order.{firstFailed}
 use Rattle.rule.specs.Lists.{every}
 use Rattle.rule.proofs.Tests.{neither}
-use Rattle.rule.proofs.Order.{passes, first-passed, decided-none, done}
+use Rattle.rule.proofs.Order.{passes, first-passed, decided-none}
 use Rattle.sheet.specs.Marks.{marksOf, shape, point, few, marksTests}
 use Rattle.sheet.specs.declared.model.Model.{Model}
 use Rattle.book.specs.Score.{Judged}
@@ -29,15 +29,15 @@ use Rattle.records.specs.Marks.{numbersIn}
 use Rattle.records.specs.declared.options.RansacOptions.{RansacOptions}
 use Rattle.records.proofs.Whole.{numbers-length}
 use Rattle.score.specs.Distances.{distancesOf, indicesIn}
-use Rattle.judge.specs.Judging.{ruleOf, ofRun, entries, judgeOf}
-use Rattle.pick.specs.Run.{viewBest, bookOf, viewState, viewOutcome}
-use Rattle.pick.specs.Opening.{openingTests, freshRun, openingAnswer}
-use Rattle.pick.specs.Indices.{marksOrder, indicesAfter}
+use Rattle.judge.specs.Judging.{ruleOf, entries, judgeOf}
+use Rattle.pick.specs.Run.{viewBest, bookOf, viewOutcome}
+use Rattle.pick.specs.Opening.{openingTests, freshRun, openingAnswer, viewOpened}
 use Rattle.pick.specs.declared.run_state.State.{State}
 use Rattle.pick.specs.declared.run_state.Outcome.{Outcome}
-use Rattle.salghemu.specs.Whole.{Files, markBytes, stopBytes, laterTests, orderOf, runTests, recordsIn, callWith, callsOf, judgedIn, stopOf, wonBy, resultOf, afterTests, runAnswer, numberOf, indexBytes, laidOver, written, Gave}
+use Rattle.salghemu.specs.Whole.{Files, markBytes, stopBytes, laterTests, orderOf, runTests, recordsIn, callWith, callsOf, judgedIn, stopOf, wonBy, resultOf, afterTests, runAnswer, numberOf, indexBytes, written, Gave}
 use Rattle.demand.specs.Demand.{Opening, Tried, Refuses, GivesOf, CalledAlike, AfterRun, by-tests, by-trials}
-use Rattle.demand.proofs.Listed.{after-list, after-is}
+use Rattle.pick.proofs.View.{state-onto}
+use Rattle.demand.proofs.Listed.{after-list, given-as, calls-answered}
 
 -- ---- lists
 
@@ -131,24 +131,6 @@ module _ (f : Files) (winner indices : ℕ) (all : firstFailed (runTests f winne
   unfolding openingAnswer
   opens = sym (decided-none (freshRun o n) opening-fine)
 
-  ofRun-fine : {k : ℕ} → k ≡ n → ofRun k l .fails ≡ false
-  unfolding ofRun
-  ofRun-fine {k} e = rw (eq-eqb n k (sym e))
-
-  room-fine : {places : ℕ} → n ≤ places → room n places .fails ≡ false
-  unfolding room
-  room-fine {places} h = le-ltb places n h
-
-  pub order-fine : (k places : ℕ) → k ≡ n → n ≤ places → 0 ≡ firstFailed (marksOrder k l places)
-  unfolding marksOrder marksTests
-  order-fine k places e h =
-      none-left
-      ∙ passes (room n places) [] (room-fine h)
-      ∙ passes (few l) _ (fine .few-fine)
-      ∙ passes (point l) _ (fine .point-fine)
-      ∙ passes (shape l) _ shape-fine
-      ∙ passes (ofRun k l) _ (ofRun-fine e)
-
 -- ---- the run's promise, by its answer
 
 module _ (f : Files) (r : ℕ) (winner indices winner′ indices′ : List ℕ) where
@@ -192,25 +174,23 @@ module _ (f : Files) (r : ℕ) (winner indices winner′ indices′ : List ℕ) 
       none-refused : every (λ a. not (isRefusal a)) (answersOf (ruleOf p) (fresh (ruleOf p)) (take read js)) ≡ true → every (λ x. not (isRefusal (viewOutcome x))) answers ≡ true
       none-refused h = every-map (λ a. not (isRefusal a)) viewOutcome answers ∙ ap (every (λ a. not (isRefusal a))) answers-are ∙ h
 
-      laid : (w : Winner Model) → viewBest (s .winner) ≡ held w → (entry : List ℕ) → m ≤ length entry
-          → indicesAfter (viewState s) numbers entry ≡ laidOver (indicesIn (p .thresh) (distancesOf numbers (w .model))) entry
-      unfolding laidOver
-      laid w h entry enough =
-          after-is p numbers (wordsOf (f .stops)) s₀ opening s (listed .0) w h numbers entry
-          ∙ sym (done (indicesIn (p .thresh) (distancesOf numbers (w .model)) ++ drop (length (indicesIn (p .thresh) (distancesOf numbers (w .model)))) entry) entry (order-fine f (length winner) (length indices) all (s .n) (length entry) (listed .0 .1) enough))
-
-      by-winner : (h : Held Model) → viewBest (s .winner) ≡ h → Gives (wonBy h) → GivesOf f s h r winner indices winner′ indices′
+      by-winner : (h : Held Model) → viewBest (s .winner) ≡ h → Gives (wonBy h) → GivesOf numbers s h r winner indices winner′ indices′
       unfolding GivesOf wonBy numberOf written indexBytes
       by-winner none e g = gave-refused NONE g
-      by-winner (held w) e g = (g .number-is, g .winner-is, (indicesIn (p .thresh) (distancesOf numbers (w .model)), (g .indices-is, laid w e)))
+      by-winner (held w) e g = (g .number-is, g .winner-is, (indicesIn (p .thresh) (distancesOf numbers (w .model)), (g .indices-is, given-as p numbers (wordsOf (f .stops)) s₀ opening s (listed .0) w e)))
 
       winner-is : viewBest (s .winner) ≡ bookAfter (ruleOf p) (fresh (ruleOf p)) (take read js) .winner
       unfolding bookOf
       winner-is = ap (λ (b : Book Model). b .winner) book-is
 
-      pub given-of : {result : Stopped Model} → result ≡ stopped (bookAfter (ruleOf p) (fresh (ruleOf p)) (take read js)) → Gives (resultOf result) → GivesOf f s (viewBest (s .winner)) r winner indices winner′ indices′
+      pub given-of : {result : Stopped Model} → result ≡ stopped (bookAfter (ruleOf p) (fresh (ruleOf p)) (take read js)) → Gives (resultOf result) → GivesOf numbers s (viewBest (s .winner)) r winner indices winner′ indices′
       unfolding resultOf
       given-of e g = by-winner (viewBest (s .winner)) refl (subst (λ (h : Held Model). Gives (wonBy h)) (sym winner-is) (subst (λ (x : Stopped Model). Gives (resultOf x)) e g))
+
+    -- the opening is accepted
+    start : (s₀ : State) × Opening p numbers (wordsOf (f .stops)) s₀
+    unfolding viewOpened
+    start = let s = state-onto (freshRun p m) in (s .0, ap gives (s .1) ∙ sym (opens f (length winner) (length indices) all))
 
     module _ (g : Gives (resultOf (stopOf p m numbers (wordsOf (f .stops)) (recordsIn (f .trials))))) where
       abbrev result : Stopped Model
@@ -236,7 +216,7 @@ module _ (f : Files) (r : ℕ) (winner indices winner′ indices′ : List ℕ) 
       is-stopped : (read : ℕ) → ReadTo (ruleOf p) js result read → (b : Book Model) → result ≡ stopped b → CalledAlike f read r winner indices winner′ indices′
       is-stopped read to b e =
           record {
-            opens = opens f (length winner) (length indices) all;
+            callable = (start .0, (start .1, calls-answered (start .0) (take read (callsOf f))));
             gives-same = λ s₀ s answers opening chain. (none-refused s₀ s answers read opening chain (to .accepted), given-of s₀ s answers read opening chain (stopped-is read to b e) of-result);
           }
 

@@ -2,3 +2,4 @@ pub mod Booking
 pub mod Order
 pub mod Answers
 pub mod View
+pub mod Accepted
