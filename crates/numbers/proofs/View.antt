@@ -1,4 +1,4 @@
--- The view of the quadratic's answer tells any two answers apart, so a contract on the view fixes the answer. Assumes nothing.
+-- The view of the quadratic's answer can be taken back, so it tells any two answers apart, and a contract on the view fixes the answer. Assumes nothing.
 use mathlib.Core.Path.{_≡_, refl}
 use mathlib.Core.List.{List, [], _∷_}
 use lib.Ieee.{Float}

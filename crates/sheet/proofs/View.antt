@@ -1,12 +1,20 @@
--- The view of the distance's answer tells any two answers apart, so a contract on the view fixes the answer. Assumes nothing.
-use mathlib.Core.Path.{_≡_}
+-- The view of the distance's answer can be taken back, so it tells any two answers apart, and a contract on the view fixes the answer. Assumes nothing.
+use mathlib.Core.Path.{_≡_, refl}
+use lib.Ieee.{Float}
+use Rattle.rule.specs.Answer.{Answer, refused, gives}
+use Rattle.rule.proofs.Views.{told-apart}
 use Rattle.sheet.specs.Distance.{viewMeasured}
 use Rattle.sheet.specs.declared.model.Measured.{Measured}
 use Rattle.sheet.specs.declared.model.Measured.the-variants.{Distance, Refused}
 
+back : Answer Float → Measured
+back (gives d) = Distance d
+back (refused k) = Refused k
+
+undone : (x : Measured) → back (viewMeasured x) ≡ x
+unfolding back viewMeasured
+undone (Distance d) = refl
+undone (Refused k) = refl
+
 pub view-one : (x y : Measured) → viewMeasured x ≡ viewMeasured y → x ≡ y
-unfolding viewMeasured
-view-one (Distance a) (Distance b) h = cc
-view-one (Distance a) (Refused k) h = cc
-view-one (Refused k) (Distance a) h = cc
-view-one (Refused j) (Refused k) h = cc
+view-one = told-apart viewMeasured back undone
