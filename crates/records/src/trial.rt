@@ -2,8 +2,6 @@
 use sheet::Model;
 ghost use mathlib.Core.Path.{_≡_};
 ghost use Prim.Native.Nat.{_≤_};
-ghost use Rattle.numbers.specs.Finite.{allFinite};
-ghost use Rattle.sheet.specs.Distance.{modelNumbers};
 ghost use Rattle.records.specs.Trial.{modelAt, numbersFormed, trialFormed, trialAnswer, viewRecorded};
 
 pub struct Refitted {
@@ -37,13 +35,6 @@ fn model_at(bytes: &[u8], i: usize) -> Model
     }
 }
 
-fn all_finite(h: Model) -> bool
-    ensures { λ r. ⌜ r ≡ allFinite (modelNumbers h) ⌝ }
-{
-    let numbers = [h.h0, h.h1, h.h2, h.h3, h.h4, h.h5, h.h6, h.h7, h.h8];
-    numbers::ensure_finite(&numbers)
-}
-
 // Whether the nine numbers from the double at place `first` on are finite, if they are marked, or
 // zero bytes, if not.
 fn numbers_formed(bytes: &[u8], mark: bool, first: usize) -> bool
@@ -51,7 +42,7 @@ fn numbers_formed(bytes: &[u8], mark: bool, first: usize) -> bool
     ensures { λ r. ⌜ r ≡ numbersFormed (now (bytes .entry)) mark first ⌝ }
 {
     if mark {
-        all_finite(model_at(bytes, first))
+        sheet::model_finite(model_at(bytes, first))
     } else {
         let a = 8 * first;
         fields::zero_bytes(bytes, a, a + 72)

@@ -16,5 +16,6 @@ pub use model::Measured;
 pub use model::Model;
 pub use model::Projection;
 pub use model::distance;
+pub use model::model_finite;
 pub use model::project;
 pub use model::residual;

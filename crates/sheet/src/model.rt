@@ -61,7 +61,8 @@ pub fn residual(h: Model, m: Mark) -> f64
     }
 }
 
-fn model_finite(h: Model) -> bool
+// Whether every number of a candidate is finite.
+pub fn model_finite(h: Model) -> bool
     ensures { λ r. ⌜ r ≡ allFinite (modelNumbers h) ⌝ }
 {
     let numbers = [h.h0, h.h1, h.h2, h.h3, h.h4, h.h5, h.h6, h.h7, h.h8];

@@ -7,8 +7,8 @@ use Rattle.records.proofs.trial.numbers_formed.Tie as tie
 model-at-requires : tie.Need-model-at-requires
 model-at-requires c κs = search needs
 
-all-finite-requires : tie.Need-all-finite-requires
-all-finite-requires c κs = search needs
+model-finite-requires : tie.Need-model-finite-requires
+model-finite-requires c κs = search needs
 
 mul-a : tie.Need-mul-a
 mul-a c = search needs
@@ -30,7 +30,7 @@ numbers-formed-spec =
     tie.close
     (tie.spec
     model-at-requires
-    all-finite-requires
+    model-finite-requires
     mul-a
     add-zero-bytes
     zero-bytes-requires
