@@ -1,13 +1,13 @@
 -- `replay::finite_agrees` meets its contract. Assumes nothing.
 use mathlib.Core.Path.{sym}
 use native.Mathlib.Omega.{arith}
-use borrow.Author.Needs.{needs}
 use lib.Seq.{length-take-le}
+use borrow.Author.Needs.{needs}
 use Rattle.replay.proofs.finite_agrees.Statement.{statement}
 use Rattle.replay.proofs.finite_agrees.Tie as tie
 
-element-copy-out-len : tie.Need-element-copy-out-len
-element-copy-out-len c = search needs
+long-at-requires : tie.Need-long-at-requires
+long-at-requires c κs = search needs
 
 returns : tie.Need-returns
 returns c = search needs
@@ -24,21 +24,21 @@ slice-aggregate-ensure-finite c = sym (length-take-le _ _ (omega (arith, c .befo
 ensure-finite-requires : tie.Need-ensure-finite-requires
 ensure-finite-requires c κs = search needs
 
+long-at-requires-2 : tie.Need-long-at-requires-2
+long-at-requires-2 c κs = search needs
+
 returns-2 : tie.Need-returns-2
 returns-2 c = search needs
-
-returns-3 : tie.Need-returns-3
-returns-3 c = search needs
 
 pub finite-agrees-spec : {M : Type 1} → statement M
 finite-agrees-spec =
     tie.close
     (tie.spec
-    element-copy-out-len
+    long-at-requires
     returns
     values-requires
     array-share-prefix-all
     slice-aggregate-ensure-finite
     ensure-finite-requires
-    returns-2
-    returns-3)
+    long-at-requires-2
+    returns-2)

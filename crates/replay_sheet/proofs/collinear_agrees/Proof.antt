@@ -1,19 +1,19 @@
 -- `replay_sheet::collinear_agrees` meets its contract. Assumes nothing.
 use mathlib.Core.Path.{sym}
 use native.Mathlib.Omega.{arith}
-use borrow.Author.Needs.{needs}
 use lib.Seq.{length-take-le}
+use borrow.Author.Needs.{needs}
 use Rattle.replay_sheet.proofs.collinear_agrees.Statement.{statement}
 use Rattle.replay_sheet.proofs.collinear_agrees.Tie as tie
 
-word-requires : tie.Need-word-requires
-word-requires c κs = search needs
+long-at-requires : tie.Need-long-at-requires
+long-at-requires c κs = search needs
 
 returns : tie.Need-returns
 returns c = search needs
 
-word-requires-2 : tie.Need-word-requires-2
-word-requires-2 c κs = search needs
+long-at-requires-2 : tie.Need-long-at-requires-2
+long-at-requires-2 c κs = search needs
 
 input-requires : tie.Need-input-requires
 input-requires c κs = search needs
@@ -33,14 +33,14 @@ points-are-collinear-requires c κs = search needs
 enum-told : tie.Need-enum-told
 enum-told c = search needs
 
-word-requires-3 : tie.Need-word-requires-3
-word-requires-3 c κs = search needs
+long-at-requires-3 : tie.Need-long-at-requires-3
+long-at-requires-3 c κs = search needs
 
 enum-told-2 : tie.Need-enum-told-2
 enum-told-2 c = search needs
 
-word-requires-4 : tie.Need-word-requires-4
-word-requires-4 c κs = search needs
+long-at-requires-4 : tie.Need-long-at-requires-4
+long-at-requires-4 c κs = search needs
 
 enum-known-answer : tie.Need-enum-known-answer
 enum-known-answer c = search needs
@@ -67,18 +67,18 @@ pub collinear-agrees-spec : {M : Type 1} → statement M
 collinear-agrees-spec =
     tie.close
     (tie.spec
-    word-requires
+    long-at-requires
     returns
-    word-requires-2
+    long-at-requires-2
     input-requires
     array-share-prefix-all
     slice-aggregate-points-are-collinear
     side-requires
     points-are-collinear-requires
     enum-told
-    word-requires-3
+    long-at-requires-3
     enum-told-2
-    word-requires-4
+    long-at-requires-4
     enum-known-answer
     cast-result
     returns-2

@@ -15,11 +15,11 @@ abbrev μ-loop : tie.MeasureT-loop
 loop-holds : tie.Need-loop-holds Inv-loop μ-loop
 loop-holds c = search needs
 
-add-double : tie.Need-add-double Inv-loop μ-loop
-add-double c = search needs
+add-double-at : tie.Need-add-double-at Inv-loop μ-loop
+add-double-at c = search needs
 
-double-requires : tie.Need-double-requires Inv-loop μ-loop
-double-requires c κs = search needs
+double-at-requires : tie.Need-double-at-requires Inv-loop μ-loop
+double-at-requires c κs = search needs
 
 mul-numbers : tie.Need-mul-numbers Inv-loop μ-loop
 mul-numbers c = search needs
@@ -46,8 +46,8 @@ input-spec =
     Inv-loop
     μ-loop
     loop-holds
-    add-double
-    double-requires
+    add-double-at
+    double-at-requires
     mul-numbers
     array-write-numbers
     add-i

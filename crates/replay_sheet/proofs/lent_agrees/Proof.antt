@@ -19,11 +19,11 @@ mul-same c = search needs
 element-copy-out-same : tie.Need-element-copy-out-same Inv-loop μ-loop
 element-copy-out-same c = search needs
 
-add-double : tie.Need-add-double Inv-loop μ-loop
-add-double c = search needs
+add-double-at : tie.Need-add-double-at Inv-loop μ-loop
+add-double-at c = search needs
 
-double-requires : tie.Need-double-requires Inv-loop μ-loop
-double-requires c κs = search needs
+double-at-requires : tie.Need-double-at-requires Inv-loop μ-loop
+double-at-requires c κs = search needs
 
 same-requires : tie.Need-same-requires Inv-loop μ-loop
 same-requires c κs = search needs
@@ -52,8 +52,8 @@ lent-agrees-spec =
     loop-holds
     mul-same
     element-copy-out-same
-    add-double
-    double-requires
+    add-double-at
+    double-at-requires
     same-requires
     returns
     add-i

@@ -1,16 +1,16 @@
 -- `replay_sheet::normalising_agrees` meets its contract. Assumes nothing.
 use mathlib.Core.Path.{sym}
 use native.Mathlib.Omega.{arith}
-use borrow.Author.Needs.{needs}
 use lib.Seq.{length-take-le}
+use borrow.Author.Needs.{needs}
 use Rattle.replay_sheet.proofs.normalising_agrees.Statement.{statement}
 use Rattle.replay_sheet.proofs.normalising_agrees.Tie as tie
 
-word-requires : tie.Need-word-requires
-word-requires c κs = search needs
+long-at-requires : tie.Need-long-at-requires
+long-at-requires c κs = search needs
 
-word-requires-2 : tie.Need-word-requires-2
-word-requires-2 c κs = search needs
+long-at-requires-2 : tie.Need-long-at-requires-2
+long-at-requires-2 c κs = search needs
 
 returns : tie.Need-returns
 returns c = search needs
@@ -42,8 +42,8 @@ normalize-points-2d-requires c κs = search needs
 cast-if3 : tie.Need-cast-if3
 cast-if3 c = search needs
 
-word-requires-3 : tie.Need-word-requires-3
-word-requires-3 c κs = search needs
+long-at-requires-3 : tie.Need-long-at-requires-3
+long-at-requires-3 c κs = search needs
 
 lent-agrees-requires : tie.Need-lent-agrees-requires
 lent-agrees-requires c κs = search needs
@@ -61,8 +61,8 @@ pub normalising-agrees-spec : {M : Type 1} → statement M
 normalising-agrees-spec =
     tie.close
     (tie.spec
-    word-requires
-    word-requires-2
+    long-at-requires
+    long-at-requires-2
     returns
     returns-2
     input-requires
@@ -73,7 +73,7 @@ normalising-agrees-spec =
     slice-aggregate-normalize-points-2d-2
     normalize-points-2d-requires
     cast-if3
-    word-requires-3
+    long-at-requires-3
     lent-agrees-requires
     matrix-agrees-requires
     returns-3

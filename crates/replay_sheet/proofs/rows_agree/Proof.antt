@@ -1,16 +1,16 @@
 -- `replay_sheet::rows_agree` meets its contract. Assumes nothing.
 use mathlib.Core.Path.{sym}
 use native.Mathlib.Omega.{arith}
-use borrow.Author.Needs.{needs}
 use lib.Seq.{length-take-le}
+use borrow.Author.Needs.{needs}
 use Rattle.replay_sheet.proofs.rows_agree.Statement.{statement}
 use Rattle.replay_sheet.proofs.rows_agree.Tie as tie
 
-word-requires : tie.Need-word-requires
-word-requires c κs = search needs
+long-at-requires : tie.Need-long-at-requires
+long-at-requires c κs = search needs
 
-word-requires-2 : tie.Need-word-requires-2
-word-requires-2 c κs = search needs
+long-at-requires-2 : tie.Need-long-at-requires-2
+long-at-requires-2 c κs = search needs
 
 returns : tie.Need-returns
 returns c = search needs
@@ -39,8 +39,8 @@ dlt-rows-requires c κs = search needs
 cast-if3 : tie.Need-cast-if3
 cast-if3 c = search needs
 
-word-requires-3 : tie.Need-word-requires-3
-word-requires-3 c κs = search needs
+long-at-requires-3 : tie.Need-long-at-requires-3
+long-at-requires-3 c κs = search needs
 
 lent-agrees-requires : tie.Need-lent-agrees-requires
 lent-agrees-requires c κs = search needs
@@ -55,8 +55,8 @@ pub rows-agree-spec : {M : Type 1} → statement M
 rows-agree-spec =
     tie.close
     (tie.spec
-    word-requires
-    word-requires-2
+    long-at-requires
+    long-at-requires-2
     returns
     returns-2
     input-requires
@@ -66,7 +66,7 @@ rows-agree-spec =
     slice-aggregate-dlt-rows-2
     dlt-rows-requires
     cast-if3
-    word-requires-3
+    long-at-requires-3
     lent-agrees-requires
     returns-3
     returns-4)
