@@ -33,7 +33,7 @@ number-at-requires-9 c κs = search needs
 
 returns : tie.Need-returns
 unfolding modelIn
-returns c = cc
+returns c = rw (c .before .before .before .before .before .before .before .before .number-at .ensures, c .before .before .before .before .before .before .before .number-at2 .ensures, c .before .before .before .before .before .before .number-at3 .ensures, c .before .before .before .before .before .number-at4 .ensures, c .before .before .before .before .number-at5 .ensures, c .before .before .before .number-at6 .ensures, c .before .before .number-at7 .ensures, c .before .number-at8 .ensures, c .number-at9 .ensures)
 
 pub model-in-spec : {M : Type 1} → statement M
 model-in-spec =

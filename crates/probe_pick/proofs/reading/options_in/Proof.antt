@@ -21,7 +21,7 @@ flag-at-requires c κs = search needs
 
 returns : tie.Need-returns
 unfolding optionsIn
-returns c = cc
+returns c = rw (c .before .before .before .before .number-at .ensures, c .before .before .before .number-at2 .ensures, c .before .before .small-at .ensures, c .before .small-at2 .ensures, c .flag-at .ensures)
 
 pub options-in-spec : {M : Type 1} → statement M
 options-in-spec =

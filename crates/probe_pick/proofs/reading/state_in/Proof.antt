@@ -31,7 +31,7 @@ winner-in-requires c κs = search needs
 
 returns : tie.Need-returns
 unfolding runIn viewState bookOf
-returns c = cc
+returns c = rw (c .before .before .before .before .before .before .before .options-in .ensures, c .before .before .before .before .before .before .word-at .ensures, c .before .before .before .before .before .small-at .ensures, c .before .before .before .before .small-at2 .ensures, c .before .before .before .small-at3 .ensures, c .before .before .small-at4 .ensures, c .before .small-at5 .ensures, c .winner-in .ensures)
 
 pub state-in-spec : {M : Type 1} → statement M
 state-in-spec =

@@ -27,7 +27,7 @@ small-at-requires-2 c κs = search needs
 
 returns-2 : tie.Need-returns-2
 unfolding winnerIn viewBest viewWinner
-returns-2 c = rw (held (c .before .before .before .before .before .flag-at .ensures) (c .before .before .before .before .if1 .left)) (cc)
+returns-2 c = rw (held (c .before .before .before .before .before .flag-at .ensures) (c .before .before .before .before .if1 .left), c .before .before .before .model-in .ensures, c .before .before .small-at .ensures, c .before .number-at .ensures, c .small-at2 .ensures)
 
 pub winner-in-spec : {M : Type 1} → statement M
 winner-in-spec =

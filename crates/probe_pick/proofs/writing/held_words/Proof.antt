@@ -44,7 +44,7 @@ bits-of-requires-10 c κs = search needs
 
 returns : tie.Need-returns
 unfolding winnerWords viewWinner modelNumbers
-returns c = cc
+returns c = rw (c .before .before .before .before .before .before .before .before .before .bits-of .ensures, c .before .before .before .before .before .before .before .before .bits-of2 .ensures, c .before .before .before .before .before .before .before .bits-of3 .ensures, c .before .before .before .before .before .before .bits-of4 .ensures, c .before .before .before .before .before .bits-of5 .ensures, c .before .before .before .before .bits-of6 .ensures, c .before .before .before .bits-of7 .ensures, c .before .before .bits-of8 .ensures, c .before .bits-of9 .ensures, c .bits-of10 .ensures)
 
 pub held-words-spec : {M : Type 1} → statement M
 held-words-spec =

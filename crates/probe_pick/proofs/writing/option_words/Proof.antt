@@ -21,7 +21,7 @@ bit-requires c κs = search needs
 
 returns : tie.Need-returns
 unfolding optionWords
-returns c = cc
+returns c = rw (c .before .before .before .before .bits-of .ensures, c .before .before .before .bits-of2 .ensures, c .bit .ensures)
 
 pub option-words-spec : {M : Type 1} → statement M
 option-words-spec =
