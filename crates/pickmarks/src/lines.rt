@@ -73,7 +73,7 @@ fn print_indices(indices: &[u32; 2000], count: usize)
 }
 
 // The lines of a winner that is held. The indices are never refused here: the marks are those of the
-// opening.
+// opening, and there is a place for each (`indices-written` of crates/pick/proofs/Accepted.antt).
 fn print_held(s: State, w: Winner, marks: &[f64]) {
     print(b"winner");
     print_number(w.number);

@@ -24,7 +24,8 @@ enum Trials {
 }
 
 // The next trial of the file, and its line. One that is cut off goes to `step` as it is, and is
-// refused for its length. The opening tested the marks, and `step` doesn't test them again.
+// refused for its length. The opening tested the marks, and `step` doesn't test them again: it answers
+// as `trial` does (`by-steps` of crates/demand/specs/Demand.antt).
 fn next_trial(fd: i32, s: State, marks: &[f64], stops: &[u32]) -> Turn {
     let mut record = [0u8; 152];
     let len = io::read_full(fd, &mut record);
