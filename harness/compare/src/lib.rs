@@ -1,8 +1,9 @@
 //! What the comparison tests share.
 
-/// How many random cases: SALGHEMU_CASES, or the test's own number.
+/// How many random cases: SALGHEMU_CASES, or the test's own number, times
+/// SALGHEMU_TIMES.
 pub fn cases(usual: usize) -> usize {
-    oracle::cases::asked().unwrap_or(usual)
+    oracle::cases::asked().unwrap_or_else(|| oracle::cases::usually(usual))
 }
 
 /// The same bits; all NaNs count as one.

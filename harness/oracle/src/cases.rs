@@ -1,10 +1,20 @@
 //! Inputs to compare on: traps by hand, limits by rule, and random ones from
 //! a fixed seed.
 
+/// The whole number that a variable of the environment is set to.
+fn set(name: &str) -> Option<usize> {
+    let text = std::env::var(name).ok()?;
+    Some(text.parse().unwrap_or_else(|_| panic!("{name} is a whole number")))
+}
+
 /// How many random cases SALGHEMU_CASES asks for, where it is set.
 pub fn asked() -> Option<usize> {
-    let text = std::env::var("SALGHEMU_CASES").ok()?;
-    Some(text.parse().expect("SALGHEMU_CASES is a whole number"))
+    set("SALGHEMU_CASES")
+}
+
+/// A test's own number of random cases, times SALGHEMU_TIMES where it is set.
+pub fn usually(usual: usize) -> usize {
+    usual * set("SALGHEMU_TIMES").unwrap_or(1)
 }
 
 /// splitmix64.

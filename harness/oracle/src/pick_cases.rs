@@ -2,15 +2,16 @@
 //! any numbers, and damaged.
 
 use crate::book::{FIT_AT, Options, REFIT_AT, TRIAL_BYTES, WINNER_BYTES, trial_record};
-use crate::cases::{NANS, Random, asked, power_of_two, step};
+use crate::cases::{NANS, Random, asked, power_of_two, step, usually};
 use crate::sheet_cases::{self, IDENTITY};
 use crate::whole::Inputs;
 use crate::{Mark, Model, RansacOptions, Trial, distance, stop_list};
 
 /// How many runs: one costs as much as so many cases of a leaf, so
-/// SALGHEMU_CASES is divided by that; or the test's own number.
+/// SALGHEMU_CASES is divided by that; or the test's own number, times
+/// SALGHEMU_TIMES.
 pub fn runs(usual: usize, cost: usize) -> usize {
-    asked().map_or(usual, |cases| cases / cost)
+    asked().map_or_else(|| usually(usual), |cases| cases / cost)
 }
 
 /// A run's inputs, none of them refused by itself.
