@@ -1,6 +1,6 @@
-// The cases of document 01, 'Sheets to try' and 'Refusals', that the entries so far reach, and some
-// traps beside them: each with what it answers, doubles as 16 hexadecimal digits. The file `stdout`
-// has the answers that 01 gives.
+// The cases of document 01, 'Sheets to try' and 'Refusals', of the leaves and of a sheet's geometry,
+// and some traps beside them: each with what it answers, doubles as 16 hexadecimal digits. The file
+// `stdout` has the answers that 01 gives. Those of the picker are run by the comparison with the Rust.
 use libc::STDOUT_FILENO;
 use line::Collinear;
 use numbers::Quadratic;

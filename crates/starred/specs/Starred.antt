@@ -1,5 +1,6 @@
 -- Document 01, 'Sheets to try': the starred cases, one list. `proofs/Proved.antt` proves it, of the definitions.
--- The cases without a star, and these too, are run by the program `cases`.
+-- Those of the root, the quadratic and the distance are run too, beside cases without a star, by the program `cases`; those of trials by the comparison
+-- with the Rust.
 use mathlib.Core.Path.{_≡_}
 use mathlib.Core.Bool.{Bool, true, false}
 use mathlib.Core.List.{List, [], _∷_, map}
