@@ -38,7 +38,7 @@ use Rattle.pick.specs.declared.run_state.Outcome.{Outcome}
 use Rattle.pick.specs.declared.indices.Indexed.{Indexed}
 use Rattle.pick.specs.declared.indices.Indexed.the-variants.{Written}
 use Rattle.pick.proofs.Order.{opened-iters, call-short}
-use Rattle.pick.proofs.View.{indexed-one, tried-onto}
+use Rattle.pick.proofs.View.{indexed-one, state-onto, tried-onto}
 use Rattle.pick.proofs.Accepted.{order-passes, steps-as-trial}
 use Rattle.demand.specs.Demand.{OpensBy, Tried, Stepped, Indexes, Opening, Carries, judged, CarriedBy, Exactly, IndicesGiven, IndexedAs, AfterCalls}
 use Rattle.demand.proofs.Placed.{places-exactly}
@@ -51,6 +51,12 @@ by-number zero w t e = (refl, e)
 by-number (suc k) w t e = absurd (let z : _≡_ {A = ℕ} 0 1 = cc in omega (arith, z))
 
 -- ---- the opening
+
+pub opening-accepted : (o : RansacOptions) (marks : List Float) (stops : List ℕ) → firstFailed (openingTests o marks stops) ≡ 0 → (s₀ : State) × Opening o marks stops s₀
+unfolding viewOpened openingAnswer
+opening-accepted o marks stops h =
+    let s = state-onto (freshRun o (length (marksOf marks))) in
+    (s .0, ap gives (s .1) ∙ decided-none (freshRun o (length (marksOf marks))) (sym h))
 
 -- by a record
 pub record-opens : (bytes : List ℕ) (marks : List Float) (stops : List ℕ) (s₀ : State) → OpensBy bytes marks stops (Open s₀) → Opening (optionsOf bytes) marks stops s₀

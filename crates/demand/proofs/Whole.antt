@@ -10,11 +10,11 @@ use lib.Dec.{ltb, eqb}
 use lib.ListN.{length, take}
 use lib.Ieee.{Float}
 use Rattle.rule.specs.Refusal.{NONE}
-use Rattle.rule.specs.Answer.{refused, gives}
+use Rattle.rule.specs.Answer.{refused}
 use Rattle.rule.specs.Order.{firstFailed}
 use Rattle.rule.specs.Lists.{every}
 use Rattle.rule.proofs.Tests.{neither}
-use Rattle.rule.proofs.Order.{passes, first-passed, decided-none}
+use Rattle.rule.proofs.Order.{passes, first-passed}
 use Rattle.sheet.specs.Marks.{marksOf, shape, point, few, marksTests}
 use Rattle.sheet.specs.declared.model.Model.{Model}
 use Rattle.book.specs.Score.{Judged}
@@ -31,13 +31,12 @@ use Rattle.records.proofs.Whole.{numbers-length}
 use Rattle.score.specs.Distances.{distancesOf, indicesIn}
 use Rattle.judge.specs.Judging.{ruleOf, entries, judgeOf}
 use Rattle.pick.specs.Run.{viewBest, bookOf, viewOutcome}
-use Rattle.pick.specs.Opening.{openingTests, freshRun, openingAnswer, viewOpened}
+use Rattle.pick.specs.Opening.{openingTests}
 use Rattle.pick.specs.declared.run_state.State.{State}
 use Rattle.pick.specs.declared.run_state.Outcome.{Outcome}
 use Rattle.salghemu.specs.Whole.{Files, markBytes, stopBytes, laterTests, orderOf, runTests, recordsIn, callWith, callsOf, judgedIn, stopOf, wonBy, resultOf, afterTests, runAnswer, numberOf, indexBytes, written, Gave}
 use Rattle.demand.specs.Demand.{Opening, Tried, Refuses, GivesOf, CalledAlike, AfterRun, by-tests, by-trials}
-use Rattle.pick.proofs.View.{state-onto}
-use Rattle.demand.proofs.Listed.{after-list, given-as, calls-answered}
+use Rattle.demand.proofs.Listed.{opening-accepted, after-list, given-as, calls-answered}
 
 -- ---- lists
 
@@ -115,7 +114,7 @@ module _ (f : Files) (winner indices : ℕ) (all : firstFailed (runTests f winne
   unfolding firstFailed
   none-left = refl
 
-  opening-fine : 0 ≡ firstFailed (openingTests o l (wordsOf (f .stops)))
+  pub opening-fine : 0 ≡ firstFailed (openingTests o l (wordsOf (f .stops)))
   unfolding openingTests optionsTests marksTests
   opening-fine =
       none-left
@@ -126,10 +125,6 @@ module _ (f : Files) (winner indices : ℕ) (all : firstFailed (runTests f winne
       ∙ passes (iters o) _ (fine .iters-fine)
       ∙ passes (confidence o) _ (fine .confidence-fine)
       ∙ passes (thresh o) _ (fine .thresh-fine)
-
-  pub opens : openingAnswer o l (wordsOf (f .stops)) ≡ gives (freshRun o n)
-  unfolding openingAnswer
-  opens = sym (decided-none (freshRun o n) opening-fine)
 
 -- ---- the run's promise, by its answer
 
@@ -187,10 +182,8 @@ module _ (f : Files) (r : ℕ) (winner indices winner′ indices′ : List ℕ) 
       unfolding resultOf
       given-of e g = by-winner (viewBest (s .winner)) refl (subst (λ (h : Held Model). Gives (wonBy h)) (sym winner-is) (subst (λ (x : Stopped Model). Gives (resultOf x)) e g))
 
-    -- the opening is accepted
     start : (s₀ : State) × Opening p numbers (wordsOf (f .stops)) s₀
-    unfolding viewOpened
-    start = let s = state-onto (freshRun p m) in (s .0, ap gives (s .1) ∙ sym (opens f (length winner) (length indices) all))
+    start = opening-accepted p numbers (wordsOf (f .stops)) (sym (opening-fine f (length winner) (length indices) all))
 
     module _ (g : Gives (resultOf (stopOf p m numbers (wordsOf (f .stops)) (recordsIn (f .trials))))) where
       abbrev result : Stopped Model

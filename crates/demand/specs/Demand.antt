@@ -24,7 +24,7 @@ use Rattle.records.specs.declared.options.RansacOptions.{RansacOptions}
 use Rattle.score.specs.Distances.{distancesOf}
 use Rattle.judge.specs.Judging.{ruleOf, Call, judgeOf}
 use Rattle.pick.specs.Run.{viewBest, bookOf, viewState, viewOutcome, viewTried}
-use Rattle.pick.specs.Opening.{openingAnswer, recordAnswer, viewOpened}
+use Rattle.pick.specs.Opening.{openingTests, openingAnswer, recordAnswer, viewOpened}
 use Rattle.pick.specs.Trial.{trialAnswer, stepAnswer}
 use Rattle.pick.specs.Indices.{indicesAnswer, indicesAfter, viewIndexed}
 use Rattle.pick.specs.declared.run_state.State.{State}
@@ -171,7 +171,8 @@ pub record Demand3 : Type 0 where
   -- it, the opening's marks and stops'
   pub after-calls : (o : RansacOptions) (marks : List Float) (stops : List ℕ) (s₀ s : State) (calls : List Call) (answers : List Outcome)
       → Opening o marks stops s₀ → Called Tried s₀ calls answers s → CarriedBy o marks stops calls → AfterCalls o marks calls answers s
-  -- And every such list can be called: from any state, each call gives the next.
+  -- There are such openings, where none of 01's tests fails; and every such list can be called: from any state, each call gives the next.
+  pub openable : (o : RansacOptions) (marks : List Float) (stops : List ℕ) → firstFailed (openingTests o marks stops) ≡ 0 → (s₀ : State) × Opening o marks stops s₀
   pub callable : (s₀ : State) (calls : List Call) → (s : State) × ((answers : List Outcome) × Called Tried s₀ calls answers s)
   -- An opening by a record that is accepted is one with that record's options, so the same holds after it.
   pub by-record : (bytes : List ℕ) (marks : List Float) (stops : List ℕ) (s₀ : State) → OpensBy bytes marks stops (Open s₀) → Opening (optionsOf bytes) marks stops s₀
