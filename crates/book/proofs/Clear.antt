@@ -57,7 +57,7 @@ units-clear : (q k : ℕ) → T (clear (units binary64 false q k))
 unfolding units clear
 units-clear q k = cond-clear (ltb (q * 2 ^ k) (2 ^ 2098)) (odd 54 false q k 1074) (inf false) (odd-clear 54 q k 1074) tt
 
-round-clear : (num den : ℕ) → T (clear (round binary64 false num den))
+pub round-clear : (num den : ℕ) → T (clear (round binary64 false num den))
 round-clear num den = rw (round-is binary64 false num den) (units-clear _ _)
 
 -- ---- a square, a sum and a quotient
@@ -78,7 +78,7 @@ tame-clear nan t h = clash refl h
 tame-clear (inf s) t h = t
 tame-clear (fin s m e) t h = t
 
-square-clear : (x : Float) → isNan x ≡ false → T (clear (x ⊗ x))
+pub square-clear : (x : Float) → isNan x ≡ false → T (clear (x ⊗ x))
 unfolding mul isNan clear
 square-clear nan h = clash refl h
 square-clear (inf true) h = tt
@@ -93,13 +93,13 @@ square-tame (inf s) = clear-tame (inf s ⊗ inf s) (square-clear (inf s) refl)
 square-tame (fin s m e) = clear-tame (fin s m e ⊗ fin s m e) (square-clear (fin s m e) refl)
 
 -- what compares with anything is no NaN
-compared : (d t : Float) → le d t ≡ true → isNan d ≡ false
+pub compared : (d t : Float) → le d t ≡ true → isNan d ≡ false
 unfolding le lt eq isNan
 compared nan t h = clash h refl
 compared (inf s) t h = refl
 compared (fin s m e) t h = refl
 
-add-clear : (x y : Float) → T (clear x) → T (clear y) → T (clear (x ⊕ y))
+pub add-clear : (x y : Float) → T (clear x) → T (clear y) → T (clear (x ⊕ y))
 unfolding add sum clear
 add-clear nan y p q = absurd p
 add-clear (inf true) y p q = absurd p
@@ -127,7 +127,7 @@ add-tame (fin s m e) (fin t n d) p q = clear-tame (fin s m e ⊕ fin t n d) (add
 pub squares-clear : (x y : Float) → isNan (x ⊗ x ⊕ y ⊗ y) ≡ false → T (clear (x ⊗ x ⊕ y ⊗ y))
 squares-clear x y h = tame-clear (x ⊗ x ⊕ y ⊗ y) (add-tame (x ⊗ x) (y ⊗ y) (square-tame x) (square-tame y)) h
 
-div-clear : (x y : Float) → T (clear x) → T (positive y) → T (clear (x ⊘ y))
+pub div-clear : (x y : Float) → T (clear x) → T (positive y) → T (clear (x ⊘ y))
 unfolding div clear
 div-clear nan y p q = absurd p
 div-clear (inf s) nan p q = absurd q
@@ -153,7 +153,7 @@ root-clear (fin false (suc m) e) f c =
 
 -- ---- the root mean square
 
-squares-sum : (thresh sum : Float) (ds : List Float) → T (clear sum) → T (clear (sumFrom square sum (those (close thresh) ds)))
+pub squares-sum : (thresh sum : Float) (ds : List Float) → T (clear sum) → T (clear (sumFrom square sum (those (close thresh) ds)))
 unfolding sumFrom those close square
 squares-sum thresh sum [] c = c
 squares-sum thresh sum (d ∷ ds) c = go (le d thresh) refl (squares-sum thresh sum ds c) (λ p. squares-sum thresh (sum ⊕ d ⊗ d) ds p)
@@ -164,12 +164,16 @@ squares-sum thresh sum (d ∷ ds) c = go (le d thresh) refl (squares-sum thresh 
     go true h without with = with (add-clear sum (d ⊗ d) c (square-clear d (compared d thresh h)))
     go false h without with = without
 
+pub sum-clear : (thresh : Float) (ds : List Float) → T (clear (squaresIn thresh ds))
+unfolding squaresIn ofBits clear
+sum-clear thresh ds = squares-sum thresh zero′ ds tt
+
 -- every whole number from 1 up to 2 ^ 53 is a double above zero
-count-positive : (n : ℕ) → suc n ≤ 2 ^ 53 → T (positive (ofInt binary64 (pos (suc n))))
+pub count-positive : (n : ℕ) → suc n ≤ 2 ^ 53 → T (positive (ofInt binary64 (pos (suc n))))
 unfolding ofInt
 count-positive n h = positive-of-value (round binary64 false (suc n) 1) (suc n) 1 (round-whole binary64 false (suc n) h) (zero-lt-suc n)
 
-rms-of : (count : ℕ) (squares : Float) → count ≤ 2 ^ 53 → T (clear squares) → T (clear (rmsOf count squares))
+pub rms-of : (count : ℕ) (squares : Float) → count ≤ 2 ^ 53 → T (clear squares) → T (clear (rmsOf count squares))
 unfolding rmsOf clear ofBits
 rms-of zero squares h c = tt
 rms-of (suc n) squares h c =
@@ -187,8 +191,8 @@ count-within thresh (d ∷ ds) = go (close thresh d) (count-within thresh ds)
 -- Of any distances, whatever the threshold. Only a list of some 2 ^ 1024 of them, whose number has no finite double, could have a NaN: 2 ^ 53 is
 -- far above what a program can hold.
 pub rms-clear : (thresh : Float) (ds : List Float) → length ds ≤ 2 ^ 53 → T (clear (rmsIn thresh ds))
-unfolding rmsIn squaresIn ofBits clear
-rms-clear thresh ds h = rms-of (countIn thresh ds) (squaresIn thresh ds) (le-trans (count-within thresh ds) h) (squares-sum thresh zero′ ds tt)
+unfolding rmsIn
+rms-clear thresh ds h = rms-of (countIn thresh ds) (squaresIn thresh ds) (le-trans (count-within thresh ds) h) (sum-clear thresh ds)
 
 pub rms-not-nan : (thresh : Float) (ds : List Float) → length ds ≤ 2 ^ 53 → T (not (isNan (rmsIn thresh ds)))
 rms-not-nan thresh ds h = clear-not-nan (rmsIn thresh ds) (rms-clear thresh ds h)

@@ -11,7 +11,7 @@ use lib.IntN.{ℤ}
 use lib.Ieee.{Float, nan, inf, fin, up, down, lt, le, eq}
 use lib.Ieee.Fits.{down-pos, and-l}
 use lib.Ieee.Positive.{through}
-use Rattle.rule.proofs.Tests.{le-or-gt, or-left, either, clash}
+use Rattle.rule.proofs.Tests.{le-or-gt, or-left, either, clash, is-test}
 use Rattle.rule.specs.Arith.{clear}
 
 -- ---- the test `le` of two magnitudes
@@ -23,7 +23,7 @@ at-most a b h = ⊎-elim (λ (g : b ≤ a). let e : a ≡ b = omega arith in rw 
     or-true true = tt
     or-true false = tt
 
-is-at-most : (a b : ℕ) → T (ltb a b || (eqb a b && true)) → a ≤ b
+pub is-at-most : (a b : ℕ) → T (ltb a b || (eqb a b && true)) → a ≤ b
 is-at-most a b t = ⊎-elim (λ l. le-of-lt (ltb→lt a b l)) (λ e. le-of-eq (eqb→eq a b (and-l (eqb a b) true e))) (either (ltb a b) (eqb a b && true) t)
 
 -- ---- the laws
@@ -99,3 +99,49 @@ lt-le-trans (fin false m e) (fin false n d) (fin true l f) p q r h k = absurd r
 lt-le-trans (fin false m e) (fin false n d) (fin false l f) p q r h k =
     lt-ltb (m * up e * down f) (l * up f * down e)
     (below-trans (m * up e) (n * up d) (l * up f) (down e) (down d) (down f) (down-pos f) (ltb-true (m * up e * down d) (n * up d * down e) h) (is-at-most (n * up d * down f) (l * up f * down d) k))
+
+lt-self : (x : Float) → T (clear x) → lt x x ≡ true → ⊥
+unfolding clear lt
+lt-self nan c h = absurd c
+lt-self (inf true) c h = absurd c
+lt-self (inf false) c h = clash h refl
+lt-self (fin true m e) c h = absurd c
+lt-self (fin false m e) c h =
+    let l : m * up e * down e < m * up e * down e = ltb-true (m * up e * down e) (m * up e * down e) h in
+    omega arith
+
+pub lt-not-le : (x y : Float) → T (clear x) → T (clear y) → lt x y ≡ true → le y x ≡ false
+lt-not-le x y p q h = go (le y x) refl
+  where
+    go : (b : Bool) → le y x ≡ b → b ≡ false
+    go true g = absurd (lt-self x p (lt-le-trans x y x p q p h (is-test (le y x) g)))
+    go false g = refl
+
+pub le-trans-clear : (x y z : Float) → T (clear x) → T (clear y) → T (clear z) → T (le x y) → T (le y z) → T (le x z)
+le-trans-clear x y z p q r h k = go (lt z x) refl
+  where
+    go : (b : Bool) → lt z x ≡ b → T (le x z)
+    go true g = absurd (lt-self z r (lt-le-trans z y z r q r (lt-le-trans z x y r p q g h) k))
+    go false g = not-lt z x r p g
+
+pub le-infinity : (x : Float) → T (clear x) → T (le x (inf false))
+unfolding clear le lt eq
+le-infinity nan c = absurd c
+le-infinity (inf true) c = absurd c
+le-infinity (inf false) c = tt
+le-infinity (fin s m e) c = tt
+
+-- what is above a clear float is clear
+pub over-clear : (x t : Float) → T (clear x) → lt x t ≡ true → T (clear t)
+unfolding clear lt
+over-clear nan t c h = absurd c
+over-clear (inf true) t c h = absurd c
+over-clear (inf false) nan c h = clash h refl
+over-clear (inf false) (inf t) c h = clash h refl
+over-clear (inf false) (fin t n d) c h = clash h refl
+over-clear (fin true m e) t c h = absurd c
+over-clear (fin false m e) nan c h = clash h refl
+over-clear (fin false m e) (inf true) c h = clash h refl
+over-clear (fin false m e) (inf false) c h = tt
+over-clear (fin false m e) (fin true n d) c h = clash h refl
+over-clear (fin false m e) (fin false n d) c h = tt

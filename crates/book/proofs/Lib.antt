@@ -1,5 +1,6 @@
 pub mod Clear
 pub mod ClearOrder
+pub mod Under
 pub mod Winners
 pub mod Along
 pub mod Picked

@@ -235,6 +235,13 @@ rootBits-finite b pos fin =
     let u = t .short in
     (omega arith, omega arith)
 
+-- and of a normal one: its significand has all its 53 digits
+pub rootBits-normal : (b : ℕ) → 0 < b → 2 ^ 52 ≤ rootBits b
+unfolding rootBits
+rootBits-normal b pos =
+    let l = digits54 b pos .long in
+    omega arith
+
 -- ---- what the code holds on the way
 
 -- the two fields, m and e, of the pattern b

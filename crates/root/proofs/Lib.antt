@@ -4,4 +4,5 @@ pub mod Bits
 pub mod Doubles
 pub mod Correct
 pub mod Monotone
+pub mod Square
 pub mod View

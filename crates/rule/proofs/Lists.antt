@@ -2,6 +2,7 @@
 -- Assumes nothing.
 use mathlib.Core.Path.{_≡_, refl, sym, ap, ap₂, _∙_}
 use mathlib.Core.Bool.{Bool, true, false, cond}
+use mathlib.Core.Logic.{⊎-elim}
 use mathlib.Core.List.{List, [], _∷_, _++_, map, append-assoc, append-nil}
 use Prim.Native.Nat.{ℕ, zero, suc, _+_, _-_, _*_, _≤_, _<_}
 use native.Mathlib.Nat.{zero-add, add-assoc, add-comm, le-add-right, mul-zero, one-mul, mul-suc, mul-le-mul-left, le-of-lt, le-of-eq}
@@ -13,6 +14,7 @@ use lib.ListN.{length, getD, take, drop, set, length-append, length-drop, drop-o
 use lib.Seq.{drop-cons, take-suc, take-length, take-at, drop-at, drop-drop, length-take-le, set-split, sets, sets-eq}
 use lib.Ieee.{Float}
 use Rattle.rule.specs.Arith.{_⊕_}
+use Rattle.rule.proofs.Tests.{le-or-gt}
 use Rattle.rule.specs.Lists.{every, countOf, those, placesFrom, sumFrom, firstParts, forEach, replaced, filled}
 
 -- ---- a place past the end
@@ -232,6 +234,31 @@ module _ {A : Type 0} (xs l : List A) where
 
   pub filled-sets : length xs ≤ length l → sets l 0 xs ≡ filled xs l
   filled-sets h = sets-eq xs l 0 (rw (zero-add (length xs)) h) ∙ rw (filled-is h, zero-add (length xs))
+
+pub filled-length : {A : Type 0} (xs l : List A) → length (filled xs l) ≡ length l
+filled-length xs l = ⊎-elim fits not (le-or-gt (length xs) (length l))
+  where
+    fits : length xs ≤ length l → length (filled xs l) ≡ length l
+    fits h = rw (filled-is xs l h, length-append, length-drop) (omega (arith, h))
+
+    not : length l < length xs → length (filled xs l) ≡ length l
+    not h = rw (← filled-not xs l h)
+
+pub filled-front : {A : Type 0} (xs l : List A) → length xs ≤ length l → take (length xs) (filled xs l) ≡ xs
+filled-front xs l h = rw (filled-is xs l h) (take-at xs (drop (length xs) l) (length xs) refl)
+
+-- as much written once more leaves nothing of the first
+pub filled-again : {A : Type 0} (xs ys l : List A) → length xs ≡ length ys → filled ys (filled xs l) ≡ filled ys l
+filled-again xs ys l e = ⊎-elim fits not (le-or-gt (length xs) (length l))
+  where
+    fits : length xs ≤ length l → filled ys (filled xs l) ≡ filled ys l
+    fits h =
+        filled-is ys (filled xs l) (rw (filled-length xs l, ← e) h)
+        ∙ rw (filled-is xs l h, ← e, drop-at xs (drop (length xs) l) (length xs) refl)
+        (ap (λ n. ys ++ drop n l) e ∙ sym (filled-is ys l (rw (← e) h)))
+
+    not : length l < length xs → filled ys (filled xs l) ≡ filled ys l
+    not h = rw (← filled-not xs l h)
 
 -- a part that is lent to one that fills it
 pub part-filled : {A : Type 0} (at end : ℕ) (xs l : List A) {part : List A} → at + length xs ≡ end → end ≤ length l → part ≡ filled xs (midOf at (end - at) l)
