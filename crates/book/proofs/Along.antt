@@ -11,8 +11,8 @@ use borrow.Author.Tests.{leb-false, ltb-false, lt-leb, le-ltb}
 use lib.Dec.{T, leb, ltb}
 use Rattle.rule.specs.Refusal.{ENDED}
 use Rattle.book.specs.Score.{Options, Standing, Judged, turned-down, empty, few, scored}
-use Rattle.book.specs.Book.{Book, Held, Outcome, is-refused, is-held, is-won, raised, lowered, beats, scoredAnswer, entered, hasEnded, called, fresh, bookAfter, answersOf}
-use Rattle.book.specs.Calls.{isClosed, tried}
+use Rattle.book.specs.Book.{Book, Held, Outcome, is-refused, is-held, is-won, raised, lowered, boundAfter, beats, scoredAnswer, entered, endedAt, hasEnded, called, fresh, bookAfter, answersOf}
+use Rattle.book.specs.Calls.{closedAt, isClosed, tried}
 use Rattle.book.specs.Rule.{Score, Among, scoresIn, Picks}
 use Rattle.rule.specs.Arith.{clear}
 use Rattle.book.proofs.Winners.{among-none, among-last, scoreAt, picks-next}
@@ -48,7 +48,7 @@ module _ {M : Type 0} (o : Options) where
   counts-fresh = record { counted = refl; bounded = le-refl (o .most) }
 
   counts-entered : (b : Book M) (j : Judged M) → Counts o b → Counts o (entered o b j .book)
-  unfolding entered
+  unfolding entered boundAfter
   counts-entered b (turned-down k) c = c
   counts-entered b empty c = record { counted = omega arith; bounded = c .bounded }
   counts-entered b (few count) c = record { counted = omega arith; bounded = c .bounded }
@@ -70,7 +70,7 @@ module _ {M : Type 0} (o : Options) where
 
   -- Before its bound the book has read fewer than max_iters, and so fewer than 100,000; and none of its counts exceeds what it has read.
   pub same-end : o .most ≤ 100000 → (b : Book M) → Counts o b → isClosed b ≡ hasEnded b
-  unfolding isClosed hasEnded
+  unfolding isClosed closedAt hasEnded endedAt
   same-end small b c = go (leb (b .bound) (b .read)) refl
     where
       go : (t : Bool) → leb (b .bound) (b .read) ≡ t → isClosed b ≡ t

@@ -9,7 +9,7 @@ use borrow.Author.Tests.{ltb-true, ltb-false, eqb-true, eqb-false}
 use lib.Dec.{T, ltb, eqb}
 use lib.Ieee.{lt, le}
 use Rattle.book.specs.Score.{Standing}
-use Rattle.book.specs.Book.{Held, none, held, beats, winnerAfter}
+use Rattle.book.specs.Book.{Held, none, held, isBetter, beats, winnerAfter}
 use Rattle.book.specs.Rule.{Score, Among, first, later, scoreOf, Behind, Best, Picks}
 use Rattle.rule.specs.Arith.{clear}
 use Rattle.book.proofs.ClearOrder.{le-same, lt-le, not-lt, lt-not-eq, lt-le-trans}
@@ -102,7 +102,7 @@ scoreAt read s = record { number = suc read; count = s .count; rms = s .rms }
 pub picks-next : {M : Type 0} (s : Standing M) (before : Held M) (es : List Score) (read : ℕ) → Picks before es
     → ((x : Score) → Among x es → x .number ≤ read) → ((x : Score) → Among x es → T (clear (x .rms))) → T (clear (s .rms))
     → Picks (winnerAfter s (suc read) before) (es ++ (scoreAt read s ∷ []))
-unfolding Picks winnerAfter beats scoreOf scoreAt
+unfolding Picks winnerAfter beats isBetter scoreOf scoreAt
 picks-next s none es read p numbered clears c = subst (λ l. Best (scoreAt read s) (l ++ (scoreAt read s ∷ []))) (sym p) (alone (scoreAt read s))
 picks-next {M} s (held w) es read p numbered clears c = go (ltb (w .count) (s .count)) refl (eqb (s .count) (w .count)) refl (lt (s .rms) (w .rms)) refl
   where

@@ -46,11 +46,22 @@ raised least k = cond (ltb k least) least k
 unfoldable pub lowered : ℕ → ℕ → ℕ
 lowered most k = cond (ltb most k) most k
 
+unfoldable pub boundAfter : (most read stop : ℕ) → ℕ
+boundAfter most read stop = lowered most (raised read stop)
+
+-- The run has ended when trials read ≥ bound.
+unfoldable pub endedAt : (read bound : ℕ) → Bool
+endedAt read bound = leb bound read
+
+-- Against a winner: its count is higher, or the count is equal and rms less.
+unfoldable pub isBetter : (count : ℕ) (rms : Float) (best : ℕ) (best-rms : Float) → Bool
+isBetter count rms best best-rms = ltb best count || (eqb count best && lt rms best-rms)
+
 module _ {M : Type 0} where
   -- It wins if nothing won before, its count is higher, or the count is equal and rms less.
   unfoldable pub beats : Standing M → Held M → Bool
   beats s none = true
-  beats s (held w) = ltb (w .count) (s .count) || (eqb (s .count) (w .count) && lt (s .rms) (w .rms))
+  beats s (held w) = isBetter (s .count) (s .rms) (w .count) (w .rms)
 
   -- the winner after the scored trial of a number
   unfoldable pub winnerAfter : Standing M → ℕ → Held M → Held M
@@ -81,15 +92,14 @@ module _ {M : Type 0} where
               empties = b .empties;
               fews = b .fews;
               scores = suc (b .scores);
-              bound = lowered (o .most) (raised (suc (b .read)) (s .stop));
+              bound = boundAfter (o .most) (suc (b .read)) (s .stop);
               winner = winnerAfter s (suc (b .read)) (b .winner);
             };
         answer = scoredAnswer s (b .winner);
       }
 
-  -- The run has ended when trials read ≥ bound.
   unfoldable pub hasEnded : Book M → Bool
-  hasEnded b = leb (b .bound) (b .read)
+  hasEnded b = endedAt (b .read) (b .bound)
 
   -- one call: 10 after the end, which leaves the book
   unfoldable pub called : Options → Book M → Judged M → Entered M

@@ -7,13 +7,16 @@ use Prim.Native.Nat.{ℕ}
 use lib.Dec.{leb, ltb}
 use Rattle.rule.specs.Refusal.{ENDED}
 use Rattle.book.specs.Score.{Options, Judged}
-use Rattle.book.specs.Book.{Book, Outcome, is-refused, is-empty, is-few, is-held, is-won, Entered, entered, hasEnded}
+use Rattle.book.specs.Book.{Book, Outcome, is-refused, is-empty, is-few, is-held, is-won, Entered, entered, endedAt}
 
 -- ---- one call, on any state
 
 -- 'A hand-made state is answered too: ended if trials read ≥ bound or ≥ 100,000, or if another of its counts exceeds trials read.'
+unfoldable pub closedAt : (read empties fews scores bound : ℕ) → Bool
+closedAt read empties fews scores bound = endedAt read bound || (leb 100000 read || (ltb read empties || (ltb read fews || ltb read scores)))
+
 unfoldable pub isClosed : {M : Type 0} → Book M → Bool
-isClosed b = hasEnded b || (leb 100000 (b .read) || (ltb (b .read) (b .empties) || (ltb (b .read) (b .fews) || ltb (b .read) (b .scores))))
+isClosed b = closedAt (b .read) (b .empties) (b .fews) (b .scores) (b .bound)
 
 -- What a trial makes of what a state has of the book. The book itself has its own test of the end; that the two never differ after an opening is part of
 -- what is proved.

@@ -8,13 +8,13 @@ use Rattle.root.specs.Root.{significand, exponent, shiftOf, shift, scaled, heig
 use Rattle.numbers.specs.Finite.{absOf, isFinite, within}
 use Rattle.numbers.specs.Quadratic.{counts0, linear, discriminant, ascending, curved, rootsOf, quadraticAnswer}
 use Rattle.book.specs.Score.{close, countIn, square, squaresIn, rmsOf, rmsIn, countUnder, stopAt, standing, judgedBy, standsOf, judgeTrial}
-use Rattle.book.specs.Book.{beats, winnerAfter, scoredAnswer, raised, lowered, entered, hasEnded, called, fresh, bookAfter}
+use Rattle.book.specs.Book.{isBetter, beats, winnerAfter, scoredAnswer, raised, lowered, boundAfter, entered, endedAt, hasEnded, called, fresh, bookAfter}
 use Rattle.sheet.specs.Marks.{pointOf, squaredApart}
 use Rattle.sheet.specs.Distance.{projectionOf, distanceOf, inlier}
 use Rattle.starred.specs.Starred.{Starred}
 
 pub starred : Starred
-unfolding round ofBits toBits neg add sub mul div lt le leadingZeros wholeRoot significand exponent shiftOf shift scaled height rootBits hasRoot rootOf rootAnswer absOf isFinite within counts0 linear discriminant ascending curved rootsOf quadraticAnswer countOf pointOf squaredApart projectionOf distanceOf inlier eq close countIn those sumFrom square squaresIn rmsOf rmsIn ofInt countUnder stopAt standing judgedBy standsOf judgeTrial beats winnerAfter scoredAnswer raised lowered entered hasEnded called fresh bookAfter
+unfolding round ofBits toBits neg add sub mul div lt le leadingZeros wholeRoot significand exponent shiftOf shift scaled height rootBits hasRoot rootOf rootAnswer absOf isFinite within counts0 linear discriminant ascending curved rootsOf quadraticAnswer countOf pointOf squaredApart projectionOf distanceOf inlier eq close countIn those sumFrom square squaresIn rmsOf rmsIn ofInt countUnder stopAt standing judgedBy standsOf judgeTrial isBetter beats winnerAfter scoredAnswer raised lowered boundAfter entered endedAt hasEnded called fresh bookAfter
 starred =
     record {
       under-I = refl;
