@@ -24,8 +24,9 @@ use Rattle.book.proofs.Picked.{judge-own, judge-clear, picking-rule, callable, 
 use Rattle.records.specs.Options.{optionsRecord, optionsOf}
 use Rattle.records.specs.Trial.{trialOf}
 use Rattle.records.specs.declared.options.RansacOptions.{RansacOptions}
-use Rattle.score.specs.Distances.{distancesOf, indicesIn}
-use Rattle.score.proofs.Walk.{ds-length, ds-at}
+use Rattle.measure.specs.Distances.{distancesOf}
+use Rattle.score.specs.Places.{indicesIn}
+use Rattle.measure.proofs.Squares.{distances-count, distance-at}
 use Rattle.salghemu.specs.Whole.{laidOver}
 use Rattle.judge.specs.Judging.{ruleOf, Call, callTests, worth, judgedBy, judgeOf}
 use Rattle.pick.specs.Run.{Run, Answer, viewBest, bookOf, viewState, viewOutcome, viewTried}
@@ -37,18 +38,12 @@ use Rattle.pick.specs.declared.run_state.State.{State}
 use Rattle.pick.specs.declared.run_state.Outcome.{Outcome}
 use Rattle.pick.specs.declared.indices.Indexed.{Indexed}
 use Rattle.pick.specs.declared.indices.Indexed.the-variants.{Written}
+use Rattle.judge.proofs.Left.{by-number}
 use Rattle.pick.proofs.Order.{opened-iters, call-short}
 use Rattle.pick.proofs.View.{indexed-one, state-onto, tried-onto}
 use Rattle.pick.proofs.Accepted.{order-passes, steps-as-trial}
 use Rattle.demand.specs.Demand.{OpensBy, Tried, Stepped, Indexes, Opening, Carries, judged, CarriedBy, Exactly, IndicesGiven, IndexedAs, AfterCalls}
 use Rattle.demand.proofs.Placed.{places-exactly}
-
--- ---- a judged call that is scored
-
-by-number : (k : ℕ) (w : Judged Model) (t : Standing Model) → ifPassed k w (turned-down k) ≡ scored t → (k ≡ 0) × (w ≡ scored t)
-unfolding ifPassed
-by-number zero w t e = (refl, e)
-by-number (suc k) w t e = absurd (let z : _≡_ {A = ℕ} 0 1 = cc in omega (arith, z))
 
 -- ---- the opening
 
@@ -120,7 +115,7 @@ module _ (o : RansacOptions) (marks : List Float) (stops : List ℕ) (s₀ : Sta
     where
       short : (m : Model) → length (distancesOf (c .marks) m) ≤ 2 ^ 53
       short m =
-          let a = ds-length (o .thresh) (c .marks) m in
+          let a = distances-count (c .marks) m in
           let b = count (c .marks) in
           let l = call-short n c (passed c t e .0) in
           omega (arith, a, b, l)
@@ -137,13 +132,13 @@ module _ (o : RansacOptions) (marks : List Float) (stops : List ℕ) (s₀ : Sta
 
       inlier-at : (i : ℕ) → close (o .thresh) (getD ds i (distanceOf (w .model) noMark)) ≡ inlier (w .model) (o .thresh) (markAt l i)
       unfolding close inlier
-      inlier-at i = rw (ds-at (o .thresh) l (w .model) i)
+      inlier-at i = rw (distance-at l (w .model) i)
 
       exact : Exactly (length (marksOf l)) (λ i. inlier (w .model) (o .thresh) (markAt l i)) xs
       unfolding indicesIn
       exact =
           let e = places-exactly (close (o .thresh)) (distanceOf (w .model) noMark) ds in
-          let long = ds-length (o .thresh) l (w .model) in
+          let long = distances-count l (w .model) in
           record {
             all = λ i h t. e .all i (rw long h) (inlier-at i ∙ t);
             no-others = λ i m. (rw (← long) (e .no-others i m .0), sym (inlier-at i) ∙ e .no-others i m .1);

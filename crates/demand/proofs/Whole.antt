@@ -28,7 +28,8 @@ use Rattle.records.specs.Options.{thresh, confidence, iters, optionsRecord, opt
 use Rattle.records.specs.Marks.{numbersIn}
 use Rattle.records.specs.declared.options.RansacOptions.{RansacOptions}
 use Rattle.records.proofs.Whole.{numbers-length}
-use Rattle.score.specs.Distances.{distancesOf, indicesIn}
+use Rattle.measure.specs.Distances.{distancesOf}
+use Rattle.score.specs.Places.{indicesIn}
 use Rattle.judge.specs.Judging.{ruleOf, entries, judgeOf}
 use Rattle.pick.specs.Run.{viewBest, bookOf, viewOutcome}
 use Rattle.pick.specs.Opening.{openingTests}

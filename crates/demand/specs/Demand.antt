@@ -21,7 +21,7 @@ use Rattle.fields.specs.Fields.{wordsOf, bytesOf}
 use Rattle.records.specs.Options.{optionsOf}
 use Rattle.records.specs.Marks.{numbersIn}
 use Rattle.records.specs.declared.options.RansacOptions.{RansacOptions}
-use Rattle.score.specs.Distances.{distancesOf}
+use Rattle.measure.specs.Distances.{distancesOf}
 use Rattle.judge.specs.Judging.{ruleOf, Call, judgeOf}
 use Rattle.pick.specs.Run.{viewBest, bookOf, viewState, viewOutcome, viewTried}
 use Rattle.pick.specs.Opening.{openingTests, openingAnswer, recordAnswer, viewOpened}

@@ -1,2 +1,3 @@
 pub mod Ways
 pub mod View
+pub mod Left

@@ -5,12 +5,13 @@ use mathlib.Core.List.{List, [], _∷_}
 use Prim.Native.Nat.{ℕ, suc, _+_, _%_, _≤_, _<_}
 use native.Mathlib.Numerals.{add-one}
 use native.Mathlib.Omega.{arith}
-use borrow.Author.Tests.{eq-eqb, ne-eqb, lt-ltb, le-ltb, le-leb, lt-leb, ltb-false}
+use borrow.Author.Tests.{eq-eqb, ne-eqb, lt-ltb, le-ltb, le-leb, lt-leb, ltb-false, eqb-true, not-false}
 use lib.Dec.{T, ltb, eqb}
 use lib.ListN.{length, getD, length-map}
 use lib.Ieee.{Float}
 use Rattle.rule.specs.Refusal.{SHAPE, FEW, STOPS}
 use Rattle.rule.specs.Answer.{refused, gives}
+use Rattle.rule.specs.Lists.{filled}
 use Rattle.rule.specs.Order.{Test, firstFailed}
 use Rattle.rule.proofs.Tests.{neither}
 use Rattle.rule.proofs.Order.{numbered, first-passed, one-failed, all-passed, kept, done, decided-gives, decided-refused}
@@ -18,17 +19,17 @@ use Rattle.rule.proofs.Lists.{past-end}
 use Rattle.sheet.specs.Marks.{marksOf, shape, few}
 use Rattle.sheet.specs.declared.model.Model.{Model}
 use Rattle.sheet.proofs.Places.{count}
-use Rattle.book.specs.Score.{Options, countIn, rmsIn, Judged, scored, turned-down, countUnder, stopAt, standing, judgedBy, standsOf, Trial, judgeTrial, fitted, refitted}
+use Rattle.book.specs.Score.{Options, countIn, scored, turned-down, countUnder, stopAt, standing, judgedBy, standsOf, Trial, judgeTrial, fitted, refitted}
 use Rattle.book.proofs.Clear.{count-within}
-use Rattle.records.specs.Trial.{trialRecord, trialAnswer, viewRecorded}
+use Rattle.records.specs.Trial.{trialRecord, trialAnswer, trialOf, viewRecorded}
 use Rattle.records.specs.declared.trial.Recorded.{Recorded}
 use Rattle.records.specs.declared.trial.Recorded.the-variants as Recorded
 use Rattle.records.specs.declared.trial.Refitted.{Refitted}
 use Rattle.records.specs.declared.options.RansacOptions.{RansacOptions}
-use Rattle.score.specs.Distances.{distancesOf}
-use Rattle.judge.specs.Judging.{ruleOf, Call, ofRun, entries, testedMarks, testedTests, worth, judgedBy as byTests, judgeTested, standingOf, viewVerdict}
-use Rattle.judge.specs.declared.Verdict.{Verdict}
-use Rattle.judge.specs.declared.Verdict.the-variants.{Refused, Empty, Few, Scored}
+use Rattle.measure.specs.Distances.{distancesOf, squaresOf}
+use Rattle.judge.specs.Judging.{ruleOf, Call, ofRun, entries, testedMarks, testedTests, worth, judgedBy as byTests, judgeTested, rmsUnder, squaresAfter, squaresLeft, viewFinding}
+use Rattle.judge.specs.declared.Finding.{Finding}
+use Rattle.judge.specs.declared.Finding.the-variants.{Refused, Empty, Few, Scored}
 
 -- ---- the tests
 
@@ -70,6 +71,20 @@ module _ {n k : ℕ} (l : List Float) (stops : List ℕ) (marks : k ≡ length (
   pub small-run : k ≡ n → length l ≤ 8000 → n ≤ 2000
   small-run e h = let a = marks in let b = count l in omega (arith, a, b, e, h)
 
+-- marks that pass are the run's, and few enough
+pub run-passed : (n : ℕ) (l : List Float) (rest : List Test) → firstFailed (ofRun n l ∷ shape l ∷ rest) ≡ 0 → (n ≡ length (marksOf l)) × (length l ≤ 8000)
+unfolding ofRun shape
+run-passed n l rest h =
+    let a = first-passed (ofRun n l) (shape l ∷ rest) tt h in
+    let b = first-passed (shape l) rest tt (a .1) in (
+      sym (eqb-true (length (marksOf l)) n (not-false (eqb (length (marksOf l)) n) (a .0))),
+      ltb-false 8000 (length l) (neither (not (eqb (length l % 4) 0)) (ltb 8000 (length l)) (b .0) .1),
+    )
+
+pub passed-short : (n : ℕ) {k : ℕ} (l : List Float) (stops : List ℕ) → k ≡ firstFailed (testedMarks n l stops) → k ≡ 0 → length l ≤ 8000
+unfolding testedMarks
+passed-short n l stops first h = run-passed n l _ (sym first ∙ h) .1
+
 -- ---- a record over the marks
 
 module _ (o : RansacOptions) (l : List Float) (stops : List ℕ) where
@@ -101,9 +116,9 @@ module _ (o : RansacOptions) (l : List Float) (stops : List ℕ) where
   unfolding countUnder ruleOf
   counted m e = e
 
-  pub stands-scored : (m : Model) {k stop : ℕ} {rms : Float} → k ≡ countUnder (ruleOf o) ds stops m → rms ≡ rmsIn (o .thresh) (distancesOf l m) → stop ≡ stopAt (ruleOf o) ds stops k → viewVerdict (Scored (record { model = m; count = k; rms = rms; stop = stop })) ≡ scored (standing (ruleOf o) ds stops m)
-  unfolding viewVerdict standingOf standing ruleOf
-  stands-scored m e r s = rw (s, e, r)
+  pub stands-scored : (m : Model) {k stop : ℕ} → k ≡ countUnder (ruleOf o) ds stops m → stop ≡ stopAt (ruleOf o) ds stops k → viewFinding (rmsUnder o l) (Scored (record { model = m; count = k; stop = stop })) ≡ scored (standing (ruleOf o) ds stops m)
+  unfolding viewFinding rmsUnder standing ruleOf
+  stands-scored m e s = rw (s, e)
 
   -- which of the two stands
   module _ (r : Options) (fit refit : Model) {again : ℕ} (is : again ≡ countUnder r ds stops refit) where
@@ -119,43 +134,55 @@ module _ (o : RansacOptions) (l : List Float) (stops : List ℕ) where
   unfolding standsOf
   stands-unasked r fit refit w = rw w
 
-  module _ (fit : Model) {k : ℕ} (is : k ≡ countUnder (ruleOf o) ds stops fit) where
-    few-judged : (stands : Model) → k < o .«min_inliers» → viewVerdict (Few k) ≡ judgedBy (ruleOf o) ds stops fit stands
-    unfolding viewVerdict judgedBy ruleOf
-    few-judged stands h = rw (← is, lt-ltb k (o .«min_inliers») h)
+  -- What a trial comes to, and the list that it leaves. `s` is that list.
+  abbrev Came : Finding → List Float → Trial Model → List Float → Type 0
+  Came r s t entry = (viewFinding (rmsUnder o l) r ≡ judgeTrial (ruleOf o) ds stops t) × (s ≡ squaresAfter o l stops t entry)
 
-    enough-judged : (stands : Model) → o .«min_inliers» ≤ k → scored (standing (ruleOf o) ds stops stands) ≡ judgedBy (ruleOf o) ds stops fit stands
-    unfolding judgedBy ruleOf
-    enough-judged stands h = rw (← is, le-ltb k (o .«min_inliers») h)
+  module _ (entry : List Float) where
+    module _ (fit : Model) {k : ℕ} (is : k ≡ countUnder (ruleOf o) ds stops fit) where
+      few-judged : (stands : Model) → k < o .«min_inliers» → viewFinding (rmsUnder o l) (Few k) ≡ judgedBy (ruleOf o) ds stops fit stands
+      unfolding viewFinding judgedBy ruleOf
+      few-judged stands h = rw (← is, lt-ltb k (o .«min_inliers») h)
 
-    pub fit-few : k < o .«min_inliers» → viewVerdict (Few k) ≡ judgeTrial (ruleOf o) ds stops (fitted fit)
-    unfolding judgeTrial
-    fit-few h = few-judged fit h
+      enough-judged : (stands : Model) → o .«min_inliers» ≤ k → scored (standing (ruleOf o) ds stops stands) ≡ judgedBy (ruleOf o) ds stops fit stands
+      unfolding judgedBy ruleOf
+      enough-judged stands h = rw (← is, le-ltb k (o .«min_inliers») h)
 
-    pub fit-scored : o .«min_inliers» ≤ k → scored (standing (ruleOf o) ds stops fit) ≡ judgeTrial (ruleOf o) ds stops (fitted fit)
-    unfolding judgeTrial
-    fit-scored h = enough-judged fit h
+      pub fit-few : k < o .«min_inliers» → {s : List Float} → s ≡ filled (squaresOf l fit) entry → Came (Few k) s (fitted fit) entry
+      unfolding judgeTrial squaresAfter
+      fit-few h e = (few-judged fit h, e)
 
-    module _ (refit : Model) where
-      pub pair-few : k < o .«min_inliers» → viewVerdict (Few k) ≡ judgeTrial (ruleOf o) ds stops (refitted fit refit)
-      unfolding judgeTrial
-      pair-few h = few-judged (standsOf (ruleOf o) ds stops fit refit) h
+      pub fit-scored : o .«min_inliers» ≤ k → {s : List Float} → s ≡ filled (squaresOf l fit) entry → (r : Finding) → viewFinding (rmsUnder o l) r ≡ scored (standing (ruleOf o) ds stops fit) → Came r s (fitted fit) entry
+      unfolding judgeTrial squaresAfter
+      fit-scored h e r v = (v ∙ enough-judged fit h, e)
 
-      module _ (enough : o .«min_inliers» ≤ k) where
-        abbrev judged : Model → Judged Model
-        judged m = judgedBy (ruleOf o) ds stops fit m
+      module _ (refit : Model) where
+        pub pair-few : k < o .«min_inliers» → {s : List Float} → s ≡ filled (squaresOf l fit) entry → Came (Few k) s (refitted fit refit) entry
+        unfolding judgeTrial squaresAfter
+        pair-few h e = (few-judged (standsOf (ruleOf o) ds stops fit refit) h, e ∙ rw (← is, lt-ltb k (o .«min_inliers») h))
 
-        pub refit-scored : {again : ℕ} → again ≡ countUnder (ruleOf o) ds stops refit → o .refit ≡ true → o .«min_inliers» ≤ again → scored (standing (ruleOf o) ds stops refit) ≡ judgeTrial (ruleOf o) ds stops (refitted fit refit)
-        unfolding judgeTrial ruleOf
-        refit-scored e w h = enough-judged refit enough ∙ ap judged (stands-refit (ruleOf o) fit refit e w h)
+        -- scored, by the one that stands
+        module _ (enough : o .«min_inliers» ≤ k) where
+          pair-scored : {m : Model} → m ≡ standsOf (ruleOf o) ds stops fit refit → {s : List Float} → s ≡ filled (squaresOf l m) entry → (r : Finding)
+              → viewFinding (rmsUnder o l) r ≡ scored (standing (ruleOf o) ds stops m) → Came r s (refitted fit refit) entry
+          unfolding judgeTrial squaresAfter
+          pair-scored {m} w e r v =
+              (v ∙ enough-judged m enough ∙ ap (judgedBy (ruleOf o) ds stops fit) w, e ∙ ap (λ x. filled (squaresOf l x) entry) w ∙ rw (← is, le-ltb k (o .«min_inliers») enough))
 
-        pub refit-low : {again : ℕ} → again ≡ countUnder (ruleOf o) ds stops refit → o .refit ≡ true → again < o .«min_inliers» → scored (standing (ruleOf o) ds stops fit) ≡ judgeTrial (ruleOf o) ds stops (refitted fit refit)
-        unfolding judgeTrial ruleOf
-        refit-low e w h = enough-judged fit enough ∙ ap judged (stands-fit (ruleOf o) fit refit e w h)
+          pub refit-scored : {again : ℕ} → again ≡ countUnder (ruleOf o) ds stops refit → o .refit ≡ true → o .«min_inliers» ≤ again → {s : List Float} → s ≡ filled (squaresOf l refit) entry → (r : Finding)
+              → viewFinding (rmsUnder o l) r ≡ scored (standing (ruleOf o) ds stops refit) → Came r s (refitted fit refit) entry
+          unfolding ruleOf
+          refit-scored e w h = pair-scored (stands-refit (ruleOf o) fit refit e w h)
 
-        pub refit-unasked : o .refit ≡ false → scored (standing (ruleOf o) ds stops fit) ≡ judgeTrial (ruleOf o) ds stops (refitted fit refit)
-        unfolding judgeTrial ruleOf
-        refit-unasked w = enough-judged fit enough ∙ ap judged (stands-unasked (ruleOf o) fit refit w)
+          pub refit-low : {again : ℕ} → again ≡ countUnder (ruleOf o) ds stops refit → o .refit ≡ true → again < o .«min_inliers» → {s : List Float} → s ≡ filled (squaresOf l fit) entry → (r : Finding)
+              → viewFinding (rmsUnder o l) r ≡ scored (standing (ruleOf o) ds stops fit) → Came r s (refitted fit refit) entry
+          unfolding ruleOf
+          refit-low e w h = pair-scored (stands-fit (ruleOf o) fit refit e w h)
+
+          pub refit-unasked : o .refit ≡ false → {s : List Float} → s ≡ filled (squaresOf l fit) entry → (r : Finding)
+              → viewFinding (rmsUnder o l) r ≡ scored (standing (ruleOf o) ds stops fit) → Came r s (refitted fit refit) entry
+          unfolding ruleOf
+          refit-unasked w = pair-scored (stands-unasked (ruleOf o) fit refit w)
 
 -- ---- the judge
 
@@ -170,52 +197,53 @@ module _ (o : RansacOptions) (n : ℕ) (c : Call) {k : ℕ} (first : k ≡ first
   unfolding numbered testedMarks ofRun shape few entries
   above-0 = tt
 
-  turned : {j : ℕ} → j ≡ firstFailed (testedTests n c) → (j ≡ 0 → ⊥) → viewVerdict (Refused j) ≡ judgeTested o n c
-  unfolding viewVerdict judgeTested byTests
-  turned {j} e h = ap turned-down e ∙ kept (firstFailed (testedTests n c)) (worth o c) (turned-down (firstFailed (testedTests n c))) (λ z. h (e ∙ z))
+  -- what the judge finds, and the list that it leaves
+  abbrev Finds : Finding → List Float → List Float → Type 0
+  Finds r s entry = (viewFinding (rmsUnder o (c .marks)) r ≡ judgeTested o n c) × (s ≡ squaresLeft o n c entry)
 
-  pub call-refused : (k ≡ 0 → ⊥) → viewVerdict (Refused k) ≡ judgeTested o n c
+  turned : {j : ℕ} (entry : List Float) → j ≡ firstFailed (testedTests n c) → (j ≡ 0 → ⊥) → Finds (Refused j) entry entry
+  unfolding viewFinding judgeTested byTests squaresLeft
+  turned {j} entry e h = (
+    ap turned-down e ∙ kept (firstFailed (testedTests n c)) (worth o c) (turned-down (firstFailed (testedTests n c))) (λ z. h (e ∙ z)),
+    kept (firstFailed (testedTests n c)) (squaresAfter o (c .marks) (c .stops) (trialOf (c .bytes)) entry) entry (λ z. h (e ∙ z)),
+  )
+
+  pub call-refused : (entry : List Float) → (k ≡ 0 → ⊥) → Finds (Refused k) entry entry
   unfolding testedTests
-  call-refused h = turned (first ∙ one-failed tests last (λ z. h (first ∙ z))) h
+  call-refused entry h = turned entry (first ∙ one-failed tests last (λ z. h (first ∙ z))) h
 
-  module _ (passed : k ≡ 0) where
+  module _ (passed : k ≡ 0) (entry : List Float) where
     rest : firstFailed (trialRecord (c .bytes) ∷ []) ≡ firstFailed (testedTests n c)
     unfolding testedTests
     rest = all-passed tests last above-0 (sym first ∙ passed)
 
-    pub record-refused : {j : ℕ} → refused j ≡ trialAnswer (c .bytes) → viewVerdict (Refused j) ≡ judgeTested o n c
+    record-refused : {j : ℕ} → refused j ≡ trialAnswer (c .bytes) → Finds (Refused j) entry entry
     unfolding trialAnswer
-    record-refused h = let d = decided-refused (firstFailed (trialRecord (c .bytes) ∷ [])) _ h in turned (d .0 ∙ rest) (λ z. d .1 (sym (d .0) ∙ z))
+    record-refused h = let d = decided-refused (firstFailed (trialRecord (c .bytes) ∷ [])) _ h in turned entry (d .0 ∙ rest) (λ z. d .1 (sym (d .0) ∙ z))
 
-    pub record-judged : {t : Trial Model} → gives t ≡ trialAnswer (c .bytes) → judgeTrial (ruleOf o) (distancesOf (c .marks)) (c .stops) t ≡ judgeTested o n c
-    unfolding trialAnswer judgeTested byTests worth
-    record-judged h =
+    record-judged : {t : Trial Model} → gives t ≡ trialAnswer (c .bytes) → (r : Finding) (s : List Float) → Came o (c .marks) (c .stops) r s t entry → Finds r s entry
+    unfolding trialAnswer judgeTested byTests worth squaresLeft
+    record-judged {t} h r s came =
         let d = decided-gives (firstFailed (trialRecord (c .bytes) ∷ [])) h in
-        ap (judgeTrial (ruleOf o) (distancesOf (c .marks)) (c .stops)) (d .1)
-        ∙ done (worth o c) (turned-down (firstFailed (testedTests n c))) (sym (d .0) ∙ rest)
+        let none = sym (d .0) ∙ rest in (
+          came .0 ∙ ap (judgeTrial (ruleOf o) (distancesOf (c .marks)) (c .stops)) (d .1) ∙ done (worth o c) (turned-down (firstFailed (testedTests n c))) none,
+          came .1 ∙ ap (λ x. squaresAfter o (c .marks) (c .stops) x entry) (d .1) ∙ done (squaresAfter o (c .marks) (c .stops) (trialOf (c .bytes)) entry) entry none,
+        )
 
     -- by the case of the record's reader
     module _ {q : Recorded} (read : viewRecorded q ≡ trialAnswer (c .bytes)) where
-      pub case-refused : {j : ℕ} → q ≡ Recorded.Refused j → viewVerdict (Refused j) ≡ judgeTested o n c
+      pub case-refused : {j : ℕ} → q ≡ Recorded.Refused j → Finds (Refused j) entry entry
       unfolding viewRecorded
       case-refused e = record-refused (ap viewRecorded (sym e) ∙ read)
 
-      pub case-empty : q ≡ Recorded.Empty → viewVerdict Empty ≡ judgeTested o n c
-      unfolding viewRecorded viewVerdict judgeTrial
-      case-empty e = record-judged (ap viewRecorded (sym e) ∙ read)
+      pub case-empty : q ≡ Recorded.Empty → Finds Empty entry entry
+      unfolding viewRecorded viewFinding judgeTrial squaresAfter
+      case-empty e = record-judged (ap viewRecorded (sym e) ∙ read) Empty entry (refl, refl)
 
-      pub case-fit : {m : Model} → q ≡ Recorded.Fit m → (v : Verdict) → viewVerdict v ≡ judgeTrial (ruleOf o) (distancesOf (c .marks)) (c .stops) (fitted m) → viewVerdict v ≡ judgeTested o n c
+      pub case-fit : {m : Model} → q ≡ Recorded.Fit m → (r : Finding) (s : List Float) → Came o (c .marks) (c .stops) r s (fitted m) entry → Finds r s entry
       unfolding viewRecorded
-      case-fit e v h = h ∙ record-judged (ap viewRecorded (sym e) ∙ read)
+      case-fit e = record-judged (ap viewRecorded (sym e) ∙ read)
 
-      pub case-refit : {p : Refitted} → q ≡ Recorded.Refit p → (v : Verdict) → viewVerdict v ≡ judgeTrial (ruleOf o) (distancesOf (c .marks)) (c .stops) (refitted (p .fit) (p .refit)) → viewVerdict v ≡ judgeTested o n c
+      pub case-refit : {p : Refitted} → q ≡ Recorded.Refit p → (r : Finding) (s : List Float) → Came o (c .marks) (c .stops) r s (refitted (p .fit) (p .refit)) entry → Finds r s entry
       unfolding viewRecorded
-      case-refit e v h = h ∙ record-judged (ap viewRecorded (sym e) ∙ read)
-
--- marks that passed are few enough
-pub passed-short : (n : ℕ) {k : ℕ} (l : List Float) (stops : List ℕ) → k ≡ firstFailed (testedMarks n l stops) → k ≡ 0 → length l ≤ 8000
-unfolding testedMarks ofRun shape
-passed-short n l stops first h =
-    let a = first-passed (ofRun n l) _ tt (sym first ∙ h) in
-    let b = first-passed (shape l) _ tt (a .1) in
-    ltb-false 8000 (length l) (neither (not (eqb (length l % 4) 0)) (ltb 8000 (length l)) (b .0) .1)
+      case-refit e = record-judged (ap viewRecorded (sym e) ∙ read)

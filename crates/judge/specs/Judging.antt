@@ -1,20 +1,25 @@
 -- Document 01, 'Trials': a call of a sheet's run (a record, marks, stops), its tests but for 10, and what it comes to by itself, before the book is looked at.
-use mathlib.Core.Bool.{not}
-use mathlib.Core.List.{List, [], _∷_, _++_}
+use mathlib.Core.Bool.{not, cond}
+use mathlib.Core.List.{List, [], _∷_, _++_, map}
 use Prim.Native.Nat.{ℕ, suc}
-use lib.Dec.{eqb}
+use lib.Dec.{eqb, ltb}
 use lib.ListN.{length}
 use lib.Ieee.{Float}
 use Rattle.rule.specs.Refusal.{SHAPE, STOPS}
+use Rattle.rule.specs.Lists.{filled}
 use Rattle.rule.specs.Order.{Test, firstFailed, ifPassed}
+use Rattle.root.specs.Root.{rootOf}
 use Rattle.sheet.specs.Marks.{marksOf, shape, few, marksTests}
 use Rattle.sheet.specs.declared.model.Model.{Model}
 use Rattle.book.specs.Score as Score
-use Rattle.book.specs.Score.{Options, Judged, turned-down, judgeTrial}
+use Rattle.book.specs.Score.{Options, Judged, turned-down, Trial, unfitted, fitted, refitted, squaresIn, rmsOf, rmsIn, countUnder, standsOf, judgeTrial}
 use Rattle.records.specs.Trial.{trialRecord, trialOf}
 use Rattle.records.specs.declared.options.RansacOptions.{RansacOptions}
-use Rattle.score.specs.Distances.{distancesOf}
+use Rattle.measure.specs.Distances.{distancesOf, squaresOf}
+use Rattle.judge.specs.declared.Finding.{Finding}
+use Rattle.judge.specs.declared.Finding.the-variants as Findings
 use Rattle.judge.specs.declared.Standing.{Standing}
+use Rattle.judge.specs.declared.Support.{Support}
 use Rattle.judge.specs.declared.Verdict.{Verdict}
 use Rattle.judge.specs.declared.Verdict.the-variants.{Refused, Empty, Few, Scored}
 
@@ -72,3 +77,33 @@ viewVerdict (Refused k) = turned-down k
 viewVerdict Empty = Judged.empty
 viewVerdict (Few count) = Judged.few count
 viewVerdict (Scored s) = Judged.scored (standingOf s)
+
+-- ---- the judging without the root mean square
+
+-- that of the marks under a model
+unfoldable pub rmsUnder : RansacOptions → List Float → Model → Float
+rmsUnder o l m = rmsIn (o .thresh) (distancesOf l m)
+
+-- A finding leaves the root mean square out: it is that of the model that stands.
+unfoldable pub viewFinding : (Model → Float) → Finding → Judged Model
+viewFinding rms (Findings.Refused k) = turned-down k
+viewFinding rms Findings.Empty = Judged.empty
+viewFinding rms (Findings.Few count) = Judged.few count
+viewFinding rms (Findings.Scored s) = Judged.scored (record { model = s .model; count = s .count; rms = rms (s .model); stop = s .stop })
+
+-- Where the distances' squares are known it can be worked out.
+unfoldable pub supportWith : Float → (squares : List Float) → Support → Score.Standing Model
+supportWith thresh squares s = record { model = s .model; count = s .count; rms = rmsOf (s .count) (squaresIn thresh (map rootOf squares)); stop = s .stop }
+
+-- The lent list then has the squares of the model that stands at its front, or of the fit where that has too few marks.
+unfoldable pub squaresAfter : RansacOptions → (marks : List Float) → (stops : List ℕ) → Trial Model → List Float → List Float
+squaresAfter o l stops unfitted entry = entry
+squaresAfter o l stops (fitted fit) entry = filled (squaresOf l fit) entry
+squaresAfter o l stops (refitted fit refit) entry =
+    let few = ltb (countUnder (ruleOf o) (distancesOf l) stops fit) (o .«min_inliers») in
+    let stands = standsOf (ruleOf o) (distancesOf l) stops fit refit in
+    filled (squaresOf l (cond few fit stands)) entry
+
+-- a refused call leaves it
+unfoldable pub squaresLeft : RansacOptions → ℕ → Call → List Float → List Float
+squaresLeft o n c entry = ifPassed (firstFailed (testedTests n c)) (squaresAfter o (c .marks) (c .stops) (trialOf (c .bytes)) entry) entry

@@ -1,5 +1,6 @@
 // What a trial comes to by itself (document 01, 'Trials'): its tests but for the end of the run and
-// the range of the marks' numbers, and the judging of its record over the marks.
+// the range of the marks' numbers, and the judging of its record over the marks. Each model that is
+// asked for is measured once, into a list that is lent; all the rest is read from that list.
 use records::RansacOptions;
 use records::Recorded;
 use records::Refitted;
@@ -7,10 +8,13 @@ use sheet::Model;
 ghost use mathlib.Core.Path.{_≡_};
 ghost use Prim.Native.Nat.{_≤_};
 ghost use lib.ListN.{length};
+ghost use Rattle.rule.specs.Lists.{filled};
 ghost use Rattle.rule.specs.Order.{firstFailed};
-ghost use Rattle.book.specs.Score.{Judged, scored, countUnder, stopAt, standing, judgeTrial, fitted, refitted};
-ghost use Rattle.score.specs.Distances.{distancesOf};
-ghost use Rattle.judge.specs.Judging.{ruleOf, testedMarks, judgeTested, viewVerdict};
+ghost use Rattle.sheet.specs.Marks.{marksOf};
+ghost use Rattle.book.specs.Score.{Judged, scored, countIn, countUnder, stopAt, standing, judgeTrial, fitted, refitted};
+ghost use Rattle.measure.specs.Distances.{distancesOf, squaresOf};
+ghost use Rattle.score.specs.Places.{indexCount, indexed};
+ghost use Rattle.judge.specs.Judging.{ruleOf, testedMarks, rmsUnder, judgeTested, squaresAfter, squaresLeft, supportWith, viewFinding, viewVerdict};
 
 // The model that stands, its own count and root mean square, and the stop entry of the count.
 pub struct Standing {
@@ -26,6 +30,21 @@ pub enum Verdict {
     Empty,
     Few(u32),
     Scored(Standing),
+}
+
+// The same without the root mean square, which takes roots and isn't always asked for.
+pub struct Support {
+    pub model: Model,
+    pub count: u32,
+    pub stop: u32,
+}
+
+// What `count_support` answers.
+pub enum Finding {
+    Refused(u32),
+    Empty,
+    Few(u32),
+    Scored(Support),
 }
 
 // The tests that take no walk over the marks, in order: 0 where they pass, else the number of the
@@ -61,69 +80,175 @@ fn stop_at(o: RansacOptions, marks: &[f64], stops: &[u32], count: usize) -> u32
     if count < stops.len() { stops[count] } else { 0 }
 }
 
+// Measures a model, and counts the marks that are within the threshold under it.
+fn count_under(h: Model, thresh: f64, marks: &[f64], squares: &mut [f64]) -> usize
+    requires { ⌜ length (marksOf (now marks)) ≤ length (now squares) ⌝ }
+    ensures { λ r. ⌜ r ≡ countIn thresh (distancesOf (now (marks .entry)) h) ⌝ }
+    ensures { λ _. ⌜ now (squares .exit) ≡ filled (squaresOf (now (marks .entry)) h) (now (squares .entry)) ⌝ }
+{
+    measure::squared_residuals(h, marks, squares);
+    let n = sheet::mark_count(marks);
+    score::count_inliers(thresh, &squares[..n])
+}
+
 // Scored, by a model that stands and its count.
-fn scored_by(o: RansacOptions, stands: Model, count: usize, marks: &[f64], stops: &[u32]) -> Verdict
+fn supported_by(
+    o: RansacOptions,
+    stands: Model,
+    count: usize,
+    marks: &[f64],
+    stops: &[u32],
+) -> Finding
     requires { ⌜ length (now marks) ≤ 8000 ⌝ }
     requires { ⌜ count ≡ countUnder (ruleOf o) (distancesOf (now marks)) (now stops) stands ⌝ }
-    ensures { λ r. ⌜ viewVerdict r ≡ scored (standing (ruleOf o) (distancesOf (now (marks .entry))) (now (stops .entry)) stands) ⌝ }
+    ensures { λ r. ⌜ viewFinding (rmsUnder o (now (marks .entry))) r ≡ scored (standing (ruleOf o) (distancesOf (now (marks .entry))) (now (stops .entry)) stands) ⌝ }
 {
-    let rms = score::rms(stands, o.thresh, marks);
     let stop = stop_at(o, marks, stops, count);
-    Verdict::Scored(Standing {
+    Finding::Scored(Support {
         model: stands,
         count: count as u32,
-        rms,
         stop,
     })
 }
 
-fn judge_fit(o: RansacOptions, fit: Model, marks: &[f64], stops: &[u32]) -> Verdict
+fn count_fit(
+    o: RansacOptions,
+    fit: Model,
+    marks: &[f64],
+    stops: &[u32],
+    squares: &mut [f64; 2000],
+) -> Finding
     requires { ⌜ length (now marks) ≤ 8000 ⌝ }
-    ensures { λ r. ⌜ viewVerdict r ≡ judgeTrial (ruleOf o) (distancesOf (now (marks .entry))) (now (stops .entry)) (fitted fit) ⌝ }
+    ensures { λ r. ⌜ viewFinding (rmsUnder o (now (marks .entry))) r ≡ judgeTrial (ruleOf o) (distancesOf (now (marks .entry))) (now (stops .entry)) (fitted fit) ⌝ }
+    ensures { λ _. ⌜ now (squares .exit) ≡ squaresAfter o (now (marks .entry)) (now (stops .entry)) (fitted fit) (now (squares .entry)) ⌝ }
 {
-    let count = score::count_inliers(fit, o.thresh, marks);
+    let count = count_under(fit, o.thresh, marks, squares);
     if count < o.min_inliers as usize {
-        return Verdict::Few(count as u32);
+        return Finding::Few(count as u32);
     }
-    scored_by(o, fit, count, marks, stops)
+    supported_by(o, fit, count, marks, stops)
 }
 
 // The refit stands if options ask for it and its own count reaches min_inliers, even if it is lower
-// than the fit's.
-fn judge_refit(o: RansacOptions, pair: Refitted, marks: &[f64], stops: &[u32]) -> Verdict
+// than the fit's. Where it doesn't, the fit is measured again: the list has the squares of the model
+// that stands.
+fn count_refit(
+    o: RansacOptions,
+    pair: Refitted,
+    marks: &[f64],
+    stops: &[u32],
+    squares: &mut [f64; 2000],
+) -> Finding
     requires { ⌜ length (now marks) ≤ 8000 ⌝ }
-    ensures { λ r. ⌜ viewVerdict r ≡ judgeTrial (ruleOf o) (distancesOf (now (marks .entry))) (now (stops .entry)) (refitted (pair .fit) (pair .refit)) ⌝ }
+    ensures { λ r. ⌜ viewFinding (rmsUnder o (now (marks .entry))) r ≡ judgeTrial (ruleOf o) (distancesOf (now (marks .entry))) (now (stops .entry)) (refitted (pair .fit) (pair .refit)) ⌝ }
+    ensures { λ _. ⌜ now (squares .exit) ≡ squaresAfter o (now (marks .entry)) (now (stops .entry)) (refitted (pair .fit) (pair .refit)) (now (squares .entry)) ⌝ }
 {
     let least = o.min_inliers as usize;
     let fit = pair.fit;
-    let count = score::count_inliers(fit, o.thresh, marks);
+    let count = count_under(fit, o.thresh, marks, squares);
     if count < least {
-        return Verdict::Few(count as u32);
+        return Finding::Few(count as u32);
     }
     if !o.refit {
-        return scored_by(o, fit, count, marks, stops);
+        return supported_by(o, fit, count, marks, stops);
     }
     let refit = pair.refit;
-    let again = score::count_inliers(refit, o.thresh, marks);
+    let again = count_under(refit, o.thresh, marks, squares);
     if again < least {
-        return scored_by(o, fit, count, marks, stops);
+        measure::squared_residuals(fit, marks, squares);
+        return supported_by(o, fit, count, marks, stops);
     }
-    scored_by(o, refit, again, marks, stops)
+    supported_by(o, refit, again, marks, stops)
 }
 
-// Judges a trial of a run of `n` marks. The numbers of the marks are not tested: whoever calls has
-// done it, once for a run.
-pub fn judge(o: RansacOptions, n: usize, bytes: &[u8], marks: &[f64], stops: &[u32]) -> Verdict
-    ensures { λ r. ⌜ viewVerdict r ≡ judgeTested o n (record { bytes = now (bytes .entry); marks = now (marks .entry); stops = now (stops .entry) }) ⌝ }
+// Judges a trial of a run of `n` marks but for the root mean square, and leaves the squares of the
+// model that stands at the front of `squares`. The numbers of the marks are not tested: whoever calls
+// has done it, once for a run.
+pub fn count_support(
+    o: RansacOptions,
+    n: usize,
+    bytes: &[u8],
+    marks: &[f64],
+    stops: &[u32],
+    squares: &mut [f64; 2000],
+) -> Finding
+    ensures { λ r. ⌜ viewFinding (rmsUnder o (now (marks .entry))) r ≡ judgeTested o n (record { bytes = now (bytes .entry); marks = now (marks .entry); stops = now (stops .entry) }) ⌝ }
+    ensures { λ _. ⌜ now (squares .exit) ≡ squaresLeft o n (record { bytes = now (bytes .entry); marks = now (marks .entry); stops = now (stops .entry) }) (now (squares .entry)) ⌝ }
 {
     let refusal = check_call(n, marks, stops);
     if refusal != 0 {
-        return Verdict::Refused(refusal);
+        return Finding::Refused(refusal);
     }
     match records::read_trial(bytes) {
-        Recorded::Refused(k) => Verdict::Refused(k),
-        Recorded::Empty => Verdict::Empty,
-        Recorded::Fit(fit) => judge_fit(o, fit, marks, stops),
-        Recorded::Refit(pair) => judge_refit(o, pair, marks, stops),
+        Recorded::Refused(k) => Finding::Refused(k),
+        Recorded::Empty => Finding::Empty,
+        Recorded::Fit(fit) => count_fit(o, fit, marks, stops, squares),
+        Recorded::Refit(pair) => count_refit(o, pair, marks, stops, squares),
     }
+}
+
+// Scored, with the root mean square that goes with the squares.
+fn scored_with(s: Support, thresh: f64, squares: &[f64]) -> Verdict
+    ensures { λ r. ⌜ viewVerdict r ≡ scored (supportWith thresh (now (squares .entry)) s) ⌝ }
+{
+    let model = s.model;
+    let rms = score::rms(thresh, squares, s.count);
+    Verdict::Scored(Standing {
+        model,
+        count: s.count,
+        rms,
+        stop: s.stop,
+    })
+}
+
+// Judges a trial of a run of `n` marks. The numbers of the marks are not tested either.
+pub fn judge(o: RansacOptions, n: usize, bytes: &[u8], marks: &[f64], stops: &[u32]) -> Verdict
+    ensures { λ r. ⌜ viewVerdict r ≡ judgeTested o n (record { bytes = now (bytes .entry); marks = now (marks .entry); stops = now (stops .entry) }) ⌝ }
+{
+    let mut squares = [0.0; 2000];
+    match count_support(o, n, bytes, marks, stops, &mut squares) {
+        Finding::Refused(k) => Verdict::Refused(k),
+        Finding::Empty => Verdict::Empty,
+        Finding::Few(count) => Verdict::Few(count),
+        Finding::Scored(s) => scored_with(s, o.thresh, &squares[..n]),
+    }
+}
+
+// Measures a model, and writes the places of the marks that are within the threshold under it, into
+// lists with room for all that a run may have.
+fn places_under(
+    h: Model,
+    thresh: f64,
+    marks: &[f64],
+    squares: &mut [f64],
+    indices: &mut [u32],
+) -> usize
+    requires { ⌜ 2000 ≤ length (now squares) ⌝ }
+    ensures { λ r. ⌜ r ≡ indexCount thresh (distancesOf (now (marks .entry)) h) (now (indices .entry)) ⌝ }
+    ensures { λ _. ⌜ now (squares .exit) ≡ filled (squaresOf (now (marks .entry)) h) (now (squares .entry)) ⌝ }
+    ensures { λ _. ⌜ now (indices .exit) ≡ indexed thresh (distancesOf (now (marks .entry)) h) (now (indices .entry)) ⌝ }
+{
+    let n = sheet::mark_count(marks);
+    if squares.len() < n {
+        return 0;
+    }
+    measure::squared_residuals(h, marks, squares);
+    score::write_inliers(thresh, &squares[..n], indices)
+}
+
+// Writes the places of the marks within the threshold under a model to the front of `indices`,
+// ascending, and answers how many; nothing where it has not a place for each mark, or there are over
+// 2,000. The squares of the model are then at the front of `squares`.
+pub fn write_inliers(
+    h: Model,
+    thresh: f64,
+    marks: &[f64],
+    squares: &mut [f64; 2000],
+    indices: &mut [u32],
+) -> usize
+    ensures { λ r. ⌜ r ≡ indexCount thresh (distancesOf (now (marks .entry)) h) (now (indices .entry)) ⌝ }
+    ensures { λ _. ⌜ now (squares .exit) ≡ filled (squaresOf (now (marks .entry)) h) (now (squares .entry)) ⌝ }
+    ensures { λ _. ⌜ now (indices .exit) ≡ indexed thresh (distancesOf (now (marks .entry)) h) (now (indices .entry)) ⌝ }
+{
+    places_under(h, thresh, marks, squares, indices)
 }

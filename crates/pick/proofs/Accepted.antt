@@ -17,7 +17,8 @@ use Rattle.book.specs.Book.{Winner, held}
 use Rattle.records.specs.Options.{thresh, confidence, iters, optionsTests}
 use Rattle.records.specs.Trial.{trialRecord}
 use Rattle.records.specs.declared.options.RansacOptions.{RansacOptions}
-use Rattle.score.specs.Distances.{distancesOf, indicesIn}
+use Rattle.measure.specs.Distances.{distancesOf}
+use Rattle.score.specs.Places.{indicesIn}
 use Rattle.judge.specs.Judging.{Call, ofRun, entries, callTests, testedMarks, testedTests, worth, judgedBy, judgeOf, judgeTested}
 use Rattle.pick.specs.Run.{viewBest, bookOf, viewState}
 use Rattle.pick.specs.Opening.{openingTests, openingAnswer, viewOpened}

@@ -24,8 +24,9 @@ use Rattle.records.specs.Options.{optionsRecord, optionsOf, optionsAnswer, view
 use Rattle.records.specs.declared.options.RansacOptions.{RansacOptions}
 use Rattle.records.specs.declared.options.OptionsRead.{OptionsRead}
 use Rattle.records.specs.declared.options.OptionsRead.the-variants as Read
-use Rattle.score.specs.Distances.{distancesOf, indicesIn, cramped, indexed, indexCount}
-use Rattle.score.proofs.Walk.{ds-length}
+use Rattle.measure.specs.Distances.{distancesOf}
+use Rattle.score.specs.Places.{indicesIn, cramped, indexed, indexCount}
+use Rattle.measure.proofs.Squares.{distances-count}
 use Rattle.judge.specs.Judging.{ruleOf, ofRun}
 use Rattle.pick.specs.Run.{viewBest, viewWinner, bookOf, viewState}
 use Rattle.pick.specs.Opening.{openingTests, freshRun, openingAnswer, recordAnswer, viewOpened}
@@ -84,7 +85,7 @@ roomy n h l entry e =
     let f = first-passed (room (length (marksOf l)) (length entry)) [] tt (d .1) in
     let short : length l ≤ 8000 = ltb-false 8000 (length l) (neither (not (eqb (length l % 4) 0)) (ltb 8000 (length l)) (b .0) .1) in
     let place : length (marksOf l) ≤ length entry = ltb-false (length entry) (length (marksOf l)) (f .0) in
-    let many = ds-length zero′ l h in
+    let many = distances-count l h in
     let quarter = count l in
     rw (le-ltb (length entry) (length (distancesOf l h)) (omega (arith, many, place)), le-ltb 2000 (length (distancesOf l h)) (omega (arith, many, quarter, short)))
 

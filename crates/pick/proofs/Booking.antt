@@ -1,23 +1,21 @@
 -- What the book makes of a judged trial, on a state: one law for each way out. Assumes nothing.
 use mathlib.Core.Path.{_≡_, refl, _∙_}
 use mathlib.Core.Bool.{Bool, true, false}
-use Prim.Native.Nat.{ℕ, _+_, _≤_, _<_}
+use Prim.Native.Nat.{ℕ, _+_}
 use native.Mathlib.Numerals.{add-one}
-use borrow.Author.Tests.{le-leb, lt-leb, lt-ltb, le-ltb, eq-eqb, ne-eqb, leb-false, ltb-false}
-use lib.Dec.{leb, ltb}
-use lib.Ieee.{lt}
 use Rattle.rule.specs.Refusal.{ENDED}
-use Rattle.rule.proofs.Tests.{neither}
 use Rattle.sheet.specs.declared.model.Model.{Model}
 use Rattle.book.specs.Score.{Judged, turned-down, scored}
-use Rattle.book.specs.Book.{held, is-refused, beats, winnerAfter, scoredAnswer, raised, lowered, hasEnded, entered}
-use Rattle.book.specs.Calls.{isClosed, tried}
+use Rattle.book.specs.Score as Score
+use Rattle.book.specs.Book.{Held as HeldBy, is-refused, boundAfter, isBetter, beats, winnerAfter, scoredAnswer, entered}
+use Rattle.book.specs.Calls.{closedAt, isClosed, tried}
+use Rattle.booking.proofs.Laws.{Small, small}
 use Rattle.judge.specs.Judging.{ruleOf, standingOf, viewVerdict}
 use Rattle.judge.specs.declared.Standing.{Standing}
 use Rattle.judge.specs.declared.Verdict.{Verdict}
 use Rattle.judge.specs.declared.Verdict.the-variants as Verdicts
 use Rattle.pick.specs.Run.{viewWinner, viewBest, bookOf, viewState, viewOutcome, viewTried}
-use Rattle.pick.specs.Trial.{answerOf, triedWith}
+use Rattle.pick.specs.Trial.{answerOf, triedWith, scoredRun}
 use Rattle.pick.specs.declared.run_state.Winner.{Winner}
 use Rattle.pick.specs.declared.run_state.Best.{Best}
 use Rattle.pick.specs.declared.run_state.Best.the-variants.{Nothing, Held}
@@ -28,92 +26,19 @@ use Rattle.pick.specs.declared.run_state.Tried.{Tried}
 
 -- ---- the end
 
-module _ (s : State) where
-  pub ended : s .bound ≤ s .read → true ≡ isClosed (bookOf s)
-  unfolding isClosed bookOf hasEnded
-  ended h = rw (le-leb (s .bound) (s .read) h)
-
-  module _ (before : s .read < s .bound) where
-    pub too-many : 100000 ≤ s .read → true ≡ isClosed (bookOf s)
-    unfolding isClosed bookOf hasEnded
-    too-many h = rw (lt-leb (s .bound) (s .read) before, le-leb 100000 (s .read) h)
-
-    module _ (small : s .read < 100000) where
-      pub empties-over : s .read < s .empty → true ≡ isClosed (bookOf s)
-      unfolding isClosed bookOf hasEnded
-      empties-over h = rw (lt-leb (s .bound) (s .read) before, lt-leb 100000 (s .read) small, lt-ltb (s .read) (s .empty) h)
-
-      module _ (empties : s .empty ≤ s .read) where
-        pub fews-over : s .read < s .few → true ≡ isClosed (bookOf s)
-        unfolding isClosed bookOf hasEnded
-        fews-over h = rw (lt-leb (s .bound) (s .read) before, lt-leb 100000 (s .read) small, le-ltb (s .read) (s .empty) empties, lt-ltb (s .read) (s .few) h)
-
-        pub scores-over : s .few ≤ s .read → ltb (s .read) (s .scored) ≡ isClosed (bookOf s)
-        unfolding isClosed bookOf hasEnded
-        scores-over h = rw (lt-leb (s .bound) (s .read) before, lt-leb 100000 (s .read) small, le-ltb (s .read) (s .empty) empties, le-ltb (s .read) (s .few) h)
-
--- what an open state's counts are: one more overflows none
-pub record Small (s : State) : Type 0 where
-  pub reads : s .read < 100000
-  pub empties : s .empty ≤ s .read
-  pub fews : s .few ≤ s .read
-  pub scores : s .scored ≤ s .read
-
-pub small : (s : State) → isClosed (bookOf s) ≡ false → Small s
+pub open-counts : (s : State) → isClosed (bookOf s) ≡ false → Small (s .read) (s .empty) (s .few) (s .scored)
 unfolding isClosed bookOf
-small s h =
-    let a = neither (hasEnded (bookOf s)) _ h in
-    let b = neither (leb 100000 (s .read)) _ (a .1) in
-    let c = neither (ltb (s .read) (s .empty)) _ (b .1) in
-    let d = neither (ltb (s .read) (s .few)) _ (c .1) in
-    record {
-      reads = leb-false 100000 (s .read) (b .0);
-      empties = ltb-false (s .read) (s .empty) (c .0);
-      fews = ltb-false (s .read) (s .few) (d .0);
-      scores = ltb-false (s .read) (s .scored) (d .1);
-    }
-
--- ---- the bound
-
-module _ {k : ℕ} (least : ℕ) where
-  pub raise-up : k < least → least ≡ raised least k
-  unfolding raised
-  raise-up h = rw (lt-ltb k least h)
-
-  pub raise-not : least ≤ k → k ≡ raised least k
-  unfolding raised
-  raise-not h = rw (le-ltb k least h)
-
-  pub lower-down : least < k → least ≡ lowered least k
-  unfolding lowered
-  lower-down h = rw (lt-ltb least k h)
-
-  pub lower-not : k ≤ least → k ≡ lowered least k
-  unfolding lowered
-  lower-not h = rw (le-ltb least k h)
+open-counts s h = small _ _ _ _ _ h
 
 -- ---- the winner
-
-module _ (s : Standing) (w : Winner) where
-  pub more-marks : w .count < s .count → true ≡ beats (standingOf s) (held (viewWinner w))
-  unfolding beats standingOf viewWinner
-  more-marks h = rw (lt-ltb (w .count) (s .count) h)
-
-  pub fewer-marks : s .count ≤ w .count → (s .count ≡ w .count → ⊥) → false ≡ beats (standingOf s) (held (viewWinner w))
-  unfolding beats standingOf viewWinner
-  fewer-marks h e = rw (le-ltb (w .count) (s .count) h, ne-eqb (s .count) (w .count) e)
-
-  pub same-marks : s .count ≤ w .count → s .count ≡ w .count → lt (s .rms) (w .rms) ≡ beats (standingOf s) (held (viewWinner w))
-  unfolding beats standingOf viewWinner
-  same-marks h e = rw (le-ltb (w .count) (s .count) h, eq-eqb (s .count) (w .count) e)
 
 module _ (s : Standing) where
   pub wins-first : {b : Best} → b ≡ Nothing → true ≡ beats (standingOf s) (viewBest b)
   unfolding beats viewBest
   wins-first e = rw e
 
-  pub wins-over : {b : Best} {w : Winner} → b ≡ Held w → {r : Bool} → r ≡ beats (standingOf s) (held (viewWinner w)) → r ≡ beats (standingOf s) (viewBest b)
-  unfolding viewBest
+  pub wins-over : {b : Best} {w : Winner} → b ≡ Held w → {r : Bool} → r ≡ isBetter (s .count) (s .rms) (w .count) (w .rms) → r ≡ beats (standingOf s) (viewBest b)
+  unfolding beats viewBest viewWinner standingOf
   wins-over e h = rw e h
 
   module _ (b : Best) {r : Bool} (tested : r ≡ beats (standingOf s) (viewBest b)) where
@@ -151,13 +76,22 @@ module _ (s : State) where
   unfolding viewTried viewOutcome viewState bookOf answerOf entered
   fewed count = rw (add-one (s .read), add-one (s .few))
 
-  pub scored-up : (t : Standing) {up bound : ℕ} (winner : Best) (outcome : Outcome)
-      → viewBest winner ≡ winnerAfter (standingOf t) (s .read + 1) (viewBest (s .winner))
-      → up ≡ raised (s .read + 1) (t .stop) → bound ≡ lowered (s .options .«max_iters») up
-      → viewOutcome outcome ≡ scoredAnswer (standingOf t) (viewBest (s .winner))
-      → Books s (record { state = record { options = s .options; n = s .n; read = s .read + 1; empty = s .empty; few = s .few; scored = s .scored + 1; bound = bound; winner = winner }; outcome = outcome }) (scored (standingOf t))
-  unfolding viewTried viewState bookOf answerOf entered ruleOf standingOf
-  scored-up t winner outcome w r b a = rw (w, b, r, a, add-one (s .read), add-one (s .scored))
+  -- a scored trial, whatever it was scored by
+  pub scored-run : (t : Score.Standing Model) (state : State) {winner : HeldBy Model} → viewState state ≡ scoredRun (viewState s) winner (t .stop) → winner ≡ winnerAfter t (s .read + 1) (viewBest (s .winner))
+      → viewState state ≡ answerOf (viewState s) (entered (ruleOf (s .options)) (bookOf s) (scored t)) .run
+  unfolding viewState bookOf answerOf entered ruleOf scoredRun
+  scored-run t state e w = e ∙ rw (w, add-one (s .read))
+
+  pub scored-up : (t : Standing) (state : State) (winner : Best) (outcome : Outcome) → viewState state ≡ scoredRun (viewState s) (viewBest winner) (t .stop)
+      → viewBest winner ≡ winnerAfter (standingOf t) (s .read + 1) (viewBest (s .winner)) → viewOutcome outcome ≡ scoredAnswer (standingOf t) (viewBest (s .winner))
+      → Books s (record { state = state; outcome = outcome }) (scored (standingOf t))
+  unfolding viewTried answerOf entered standingOf bookOf
+  scored-up t state winner outcome e w a = rw (scored-run (standingOf t) state e w, a)
+
+  pub scored-state : (winner : Best) {bound : ℕ} (stop : ℕ) → bound ≡ boundAfter (s .options .«max_iters») (s .read + 1) stop
+      → viewState (record { options = s .options; n = s .n; read = s .read + 1; empty = s .empty; few = s .few; scored = s .scored + 1; bound = bound; winner = winner }) ≡ scoredRun (viewState s) (viewBest winner) stop
+  unfolding viewState bookOf scoredRun
+  scored-state winner stop b = rw (b, add-one (s .read), add-one (s .scored))
 
   -- by the case of the judge's answer
   module _ (v : Verdict) (r : Tried) where
@@ -179,15 +113,15 @@ module _ (s : State) where
 
   -- ---- a whole call
 
-  module _ {b : Bool} (tested : b ≡ isClosed (bookOf s)) (r : Tried) where
+  module _ {b : Bool} (tested : b ≡ closedAt (s .read) (s .empty) (s .few) (s .scored) (s .bound)) (r : Tried) where
     pub late : b ≡ true → viewTried r ≡ answerOf (viewState s) (record { book = bookOf s; answer = is-refused ENDED }) → (j : Judged Model) → viewTried r ≡ triedWith (viewState s) j
-    unfolding triedWith tried viewState
+    unfolding triedWith tried isClosed viewState bookOf
     late h e j = e ∙ rw (← tested, h)
 
     pub in-time : b ≡ false → {j k : Judged Model} → j ≡ k → Books s r j → viewTried r ≡ triedWith (viewState s) k
-    unfolding triedWith tried viewState
+    unfolding triedWith tried isClosed viewState bookOf
     in-time h f e = e ∙ rw (← tested, h, f)
 
     pub early-refused : b ≡ false → (k : ℕ) {j : Judged Model} → turned-down k ≡ j → viewTried r ≡ answerOf (viewState s) (record { book = bookOf s; answer = is-refused k }) → viewTried r ≡ triedWith (viewState s) j
-    unfolding triedWith tried viewState entered
+    unfolding triedWith tried isClosed viewState bookOf entered
     early-refused h k f e = e ∙ rw (← tested, h, ← f)

@@ -3,3 +3,4 @@ pub mod Order
 pub mod Answers
 pub mod View
 pub mod Accepted
+pub mod Skipping

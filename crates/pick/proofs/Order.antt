@@ -20,6 +20,7 @@ use Rattle.book.specs.Score.{turned-down}
 use Rattle.records.specs.Options.{thresh, confidence, iters, optionsTests}
 use Rattle.records.specs.Trial.{trialRecord}
 use Rattle.records.specs.declared.options.RansacOptions.{RansacOptions}
+use Rattle.judge.proofs.Ways.{run-passed}
 use Rattle.judge.specs.Judging.{Call, ofRun, entries, callTests, testedMarks, testedTests, worth, judgedBy, judgeOf, judgeTested}
 use Rattle.pick.specs.Opening.{openingTests}
 use Rattle.pick.specs.Indices.{marksOrder}
@@ -191,8 +192,5 @@ opened-iters o l table h =
 
 -- the marks of a call that passed are short
 pub call-short : (n : ℕ) (c : Call) → firstFailed (callTests n c) ≡ 0 → length (c .marks) ≤ 8000
-unfolding callTests marksTests ofRun shape
-call-short n c h =
-    let a = first-passed (ofRun n (c .marks)) _ tt h in
-    let b = first-passed (shape (c .marks)) _ tt (a .1) in
-    ltb-false 8000 (length (c .marks)) (neither (not (eqb (length (c .marks) % 4) 0)) (ltb 8000 (length (c .marks))) (b .0) .1)
+unfolding callTests marksTests
+call-short n c h = run-passed n (c .marks) _ h .1

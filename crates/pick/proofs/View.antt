@@ -8,6 +8,7 @@ use Rattle.sheet.specs.declared.model.Model.{Model}
 use Rattle.book.specs.Book as Book
 use Rattle.pick.specs.Run.{Run, Answer, viewWinner, viewBest, bookOf, viewState, viewOutcome, viewTried}
 use Rattle.pick.specs.Opening.{viewOpened}
+use Rattle.pick.specs.Trial.{viewNext}
 use Rattle.pick.specs.Indices.{viewIndexed}
 use Rattle.pick.specs.declared.run_state.Best.{Best}
 use Rattle.pick.specs.declared.run_state.Best.the-variants as Bests
@@ -17,6 +18,8 @@ use Rattle.pick.specs.declared.run_state.Outcome.the-variants as Outcome
 use Rattle.pick.specs.declared.run_state.Tried.{Tried}
 use Rattle.pick.specs.declared.opening.Opened.{Opened}
 use Rattle.pick.specs.declared.opening.Opened.the-variants as Openings
+use Rattle.pick.specs.declared.advancing.Next.{Next}
+use Rattle.pick.specs.declared.advancing.Next.the-variants as Nexts
 use Rattle.pick.specs.declared.indices.Indexed.{Indexed}
 use Rattle.pick.specs.declared.indices.Indexed.the-variants as Indices
 
@@ -104,7 +107,7 @@ pub tried-onto : (a : Answer) → (t : State) × ((x : Outcome) × (viewTried (r
 unfolding viewTried
 tried-onto a = (stateOf (a .run), (outcomeOf (a .outcome), rw (state-there (a .run), outcome-there (a .outcome))))
 
--- ---- the opening's answer and the indices'
+-- ---- the opening's answer, the next state's and the indices'
 
 openedOf : Answering Run → Opened
 openedOf (gives r) = Openings.Open (stateOf r)
@@ -117,6 +120,18 @@ opened-back (Openings.Refused k) = refl
 
 pub opened-one : (x y : Opened) → viewOpened x ≡ viewOpened y → x ≡ y
 opened-one = told-apart viewOpened openedOf opened-back
+
+nextBack : Answering Run → Next
+nextBack (gives r) = Nexts.Read (stateOf r)
+nextBack (refused k) = Nexts.Refused k
+
+next-back : (x : Next) → nextBack (viewNext x) ≡ x
+unfolding viewNext nextBack
+next-back (Nexts.Read s) = ap Nexts.Read (state-back s)
+next-back (Nexts.Refused k) = refl
+
+pub next-one : (x y : Next) → viewNext x ≡ viewNext y → x ≡ y
+next-one = told-apart viewNext nextBack next-back
 
 indexedOf : Answering ℕ → Indexed
 indexedOf (gives n) = Indices.Written n

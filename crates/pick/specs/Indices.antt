@@ -9,7 +9,8 @@ use Rattle.rule.specs.Order.{Test, firstFailed, decided, ifPassed, room}
 use Rattle.sheet.specs.Marks.{marksOf, few, marksTests}
 use Rattle.sheet.specs.declared.model.Model.{Model}
 use Rattle.book.specs.Book.{Held, none, held}
-use Rattle.score.specs.Distances.{distancesOf, indicesIn}
+use Rattle.measure.specs.Distances.{distancesOf}
+use Rattle.score.specs.Places.{indicesIn}
 use Rattle.judge.specs.Judging.{ofRun}
 use Rattle.pick.specs.Run.{Run}
 use Rattle.pick.specs.declared.indices.Indexed.{Indexed}

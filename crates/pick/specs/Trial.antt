@@ -1,10 +1,17 @@
 -- Document 01, a trial: order 10, 5 to 8, 1, then what the book makes of it. For all states, whoever made them.
+use mathlib.Core.Bool.{cond}
+use mathlib.Core.List.{List}
+use Prim.Native.Nat.{ℕ, suc}
+use lib.Ieee.{Float}
+use Rattle.rule.specs.Answer.{Answer as Answering, refused, gives}
 use Rattle.sheet.specs.declared.model.Model.{Model}
 use Rattle.book.specs.Score.{Judged}
-use Rattle.book.specs.Book.{Entered}
-use Rattle.book.specs.Calls.{tried}
-use Rattle.judge.specs.Judging.{ruleOf, Call, judgeOf, judgeTested}
-use Rattle.pick.specs.Run.{Run, Answer}
+use Rattle.book.specs.Book.{Held, Entered, boundAfter}
+use Rattle.book.specs.Calls.{isClosed, isRefusal, numberIn, tried}
+use Rattle.judge.specs.Judging.{ruleOf, Call, judgeOf, judgeTested, squaresLeft}
+use Rattle.pick.specs.Run.{Run, Answer, viewState}
+use Rattle.pick.specs.declared.advancing.Next.{Next}
+use Rattle.pick.specs.declared.advancing.Next.the-variants.{Read, Refused}
 
 -- the run after an entry into its book, and the outcome
 unfoldable pub answerOf : Run → Entered Model → Answer
@@ -19,3 +26,35 @@ trialAnswer r c = triedWith r (judgeOf (r .options) (r .n) c)
 -- the same without test 6, for marks that were tested before
 unfoldable pub stepAnswer : Run → Call → Answer
 stepAnswer r c = triedWith r (judgeTested (r .options) (r .n) c)
+
+-- ---- the same without the outcome
+
+-- the next state, or the refusal
+unfoldable pub nextOf : Answer → Answering Run
+nextOf a = cond (isRefusal (a .outcome)) (refused (numberIn (a .outcome))) (gives (a .run))
+
+-- the run after a scored trial, with its winner then and its stop entry
+unfoldable pub scoredRun : Run → Held Model → ℕ → Run
+scoredRun r winner stop =
+    let b = r .book in
+    record {
+      options = r .options;
+      n = r .n;
+      book =
+          record {
+            read = suc (b .read);
+            empties = b .empties;
+            fews = b .fews;
+            scores = suc (b .scores);
+            bound = boundAfter (r .options .«max_iters») (suc (b .read)) stop;
+            winner = winner;
+          };
+    }
+
+-- the list of squares that is lent, after the call: a run that has ended leaves it
+unfoldable pub squaresThen : Run → Call → List Float → List Float
+squaresThen r c entry = cond (isClosed (r .book)) entry (squaresLeft (r .options) (r .n) c entry)
+
+unfoldable pub viewNext : Next → Answering Run
+viewNext (Read s) = gives (viewState s)
+viewNext (Refused k) = refused k

@@ -45,7 +45,8 @@ fn indices_under(s: State, w: Winner, marks: &[f64], indices: &mut [u32]) -> Ind
     }
     let options = s.options;
     let model = w.model;
-    Indexed::Written(score::write_inliers(model, options.thresh, marks, indices))
+    let mut squares = [0.0; 2000];
+    Indexed::Written(judge::write_inliers(model, options.thresh, marks, &mut squares, indices))
 }
 
 // Writes the places of the marks within the threshold under the winner to the front of `indices`,

@@ -1,10 +1,13 @@
 // The picker, one call at a time (document 01, 'Trials' and 'Picking rule'): the opening of a run, a
 // trial, and the indices of the winner's marks. The state goes from call to call by value.
+mod advancing;
 mod indices;
 mod opening;
 mod run_state;
 mod trials;
 
+pub use advancing::Next;
+pub use advancing::advance;
 pub use indices::Indexed;
 pub use indices::winner_indices;
 pub use opening::Opened;

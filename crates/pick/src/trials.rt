@@ -9,64 +9,19 @@ use judge::Verdict;
 ghost use mathlib.Core.Path.{_≡_};
 ghost use mathlib.Core.Bool.{false};
 ghost use Rattle.book.specs.Score.{empty, few, scored};
-ghost use Rattle.book.specs.Book.{held, is-refused, beats, winnerAfter, scoredAnswer, raised, lowered, entered};
+ghost use Rattle.book.specs.Book.{is-refused, beats, winnerAfter, scoredAnswer, entered};
 ghost use Rattle.book.specs.Calls.{isClosed};
 ghost use Rattle.judge.specs.Judging.{ruleOf, standingOf, viewVerdict};
-ghost use Rattle.pick.specs.Run.{bookOf, viewBest, viewWinner, viewState, viewOutcome, viewTried};
-ghost use Rattle.pick.specs.Trial.{answerOf, trialAnswer, stepAnswer};
+ghost use Rattle.pick.specs.Run.{bookOf, viewBest, viewState, viewOutcome, viewTried};
+ghost use Rattle.pick.specs.Trial.{answerOf, trialAnswer, stepAnswer, scoredRun};
 
-// Whether a state takes no more trials: it has ended, or no run could have made it.
-fn is_closed(s: State) -> bool
-    ensures { λ r. ⌜ r ≡ isClosed (bookOf s) ⌝ }
-{
-    if s.bound <= s.read {
-        return true;
-    }
-    if 100_000 <= s.read {
-        return true;
-    }
-    if s.read < s.empty {
-        return true;
-    }
-    if s.read < s.few {
-        return true;
-    }
-    s.read < s.scored
-}
-
-fn raise(k: u32, least: u32) -> u32
-    ensures { λ r. ⌜ r ≡ raised least k ⌝ }
-{
-    if k < least { least } else { k }
-}
-
-fn lower(k: u32, most: u32) -> u32
-    ensures { λ r. ⌜ r ≡ lowered most k ⌝ }
-{
-    if most < k { most } else { k }
-}
-
-// Whether a scored trial wins: its count is higher than the winner's so far, or equal and its root
-// mean square less.
-fn is_better_model(s: Standing, w: Winner) -> bool
-    ensures { λ r. ⌜ r ≡ beats (standingOf s) (held (viewWinner w)) ⌝ }
-{
-    if w.count < s.count {
-        return true;
-    }
-    if s.count != w.count {
-        return false;
-    }
-    s.rms < w.rms
-}
-
-// It wins too where nothing won before.
+// Whether a scored trial wins: over the winner so far, or where nothing won before.
 fn wins(s: Standing, best: Best) -> bool
     ensures { λ r. ⌜ r ≡ beats (standingOf s) (viewBest best) ⌝ }
 {
     match best {
         Best::Nothing => true,
-        Best::Held(w) => is_better_model(s, w),
+        Best::Held(w) => booking::is_better_model(s.count, s.rms, w.count, w.rms),
     }
 }
 
@@ -106,7 +61,7 @@ fn refused(s: State, k: u32) -> Tried
     }
 }
 
-fn booked_empty(s: State) -> Tried
+pub(crate) fn booked_empty(s: State) -> Tried
     requires { ⌜ isClosed (bookOf s) ≡ false ⌝ }
     ensures { λ r. ⌜ viewTried r ≡ answerOf (viewState s) (entered (ruleOf (s .options)) (bookOf s) empty) ⌝ }
 {
@@ -119,7 +74,7 @@ fn booked_empty(s: State) -> Tried
     }
 }
 
-fn booked_few(s: State, count: u32) -> Tried
+pub(crate) fn booked_few(s: State, count: u32) -> Tried
     requires { ⌜ isClosed (bookOf s) ≡ false ⌝ }
     ensures { λ r. ⌜ viewTried r ≡ answerOf (viewState s) (entered (ruleOf (s .options)) (bookOf s) (few count)) ⌝ }
 {
@@ -132,18 +87,15 @@ fn booked_few(s: State, count: u32) -> Tried
     }
 }
 
-// A scored trial resets the bound, itself counted as read, and may win.
-fn booked_scored(s: State, score: Standing) -> Tried
+// The state after a scored trial with this stop entry: it resets the bound, itself counted as read.
+pub(crate) fn scored_state(s: State, winner: Best, stop: u32) -> State
     requires { ⌜ isClosed (bookOf s) ≡ false ⌝ }
-    ensures { λ r. ⌜ viewTried r ≡ answerOf (viewState s) (entered (ruleOf (s .options)) (bookOf s) (scored (standingOf score))) ⌝ }
+    ensures { λ r. ⌜ viewState r ≡ scoredRun (viewState s) (viewBest winner) stop ⌝ }
 {
     let options = s.options;
-    let best = s.winner;
     let read = s.read + 1;
-    let winner = winner_after(score, read, best);
-    let bound = lower(raise(score.stop, read), options.max_iters);
-    let outcome = scored_outcome(score, best);
-    let state = State {
+    let bound = booking::bound_after(stop, read, options.max_iters);
+    State {
         options,
         n: s.n,
         read,
@@ -152,7 +104,18 @@ fn booked_scored(s: State, score: Standing) -> Tried
         scored: s.scored + 1,
         bound,
         winner,
-    };
+    }
+}
+
+// A scored trial may win.
+fn booked_scored(s: State, score: Standing) -> Tried
+    requires { ⌜ isClosed (bookOf s) ≡ false ⌝ }
+    ensures { λ r. ⌜ viewTried r ≡ answerOf (viewState s) (entered (ruleOf (s .options)) (bookOf s) (scored (standingOf score))) ⌝ }
+{
+    let best = s.winner;
+    let winner = winner_after(score, s.read + 1, best);
+    let outcome = scored_outcome(score, best);
+    let state = scored_state(s, winner, score.stop);
     Tried { state, outcome }
 }
 
@@ -169,12 +132,11 @@ fn booked(s: State, v: Verdict) -> Tried
     }
 }
 
-// One trial over marks that were tested before: refused with 10, 5, 7, 8 or 1, in this order. The
-// whole run tests its marks once and then calls this.
+// One trial over marks that were tested before: refused with 10, 5, 7, 8 or 1, in this order.
 pub fn step(s: State, bytes: &[u8], marks: &[f64], stops: &[u32]) -> Tried
     ensures { λ r. ⌜ viewTried r ≡ stepAnswer (viewState s) (record { bytes = now (bytes .entry); marks = now (marks .entry); stops = now (stops .entry) }) ⌝ }
 {
-    if is_closed(s) {
+    if booking::is_closed(s.read, s.empty, s.few, s.scored, s.bound) {
         return refused(s, rule::ENDED);
     }
     let options = s.options;
@@ -185,7 +147,7 @@ pub fn step(s: State, bytes: &[u8], marks: &[f64], stops: &[u32]) -> Tried
 pub fn trial(s: State, bytes: &[u8], marks: &[f64], stops: &[u32]) -> Tried
     ensures { λ r. ⌜ viewTried r ≡ trialAnswer (viewState s) (record { bytes = now (bytes .entry); marks = now (marks .entry); stops = now (stops .entry) }) ⌝ }
 {
-    if is_closed(s) {
+    if booking::is_closed(s.read, s.empty, s.few, s.scored, s.bound) {
         return refused(s, rule::ENDED);
     }
     if sheet::mark_count(marks) != s.n {

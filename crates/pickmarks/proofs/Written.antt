@@ -10,7 +10,8 @@ use Rattle.rule.specs.Order.{firstFailed, ifPassed}
 use Rattle.rule.proofs.Order.{decided-gives}
 use Rattle.sheet.specs.declared.model.Model.{Model}
 use Rattle.book.specs.Book.{Held, none, held}
-use Rattle.score.specs.Distances.{distancesOf, indicesIn}
+use Rattle.measure.specs.Distances.{distancesOf}
+use Rattle.score.specs.Places.{indicesIn}
 use Rattle.pick.specs.Run.{Run}
 use Rattle.pick.specs.Indices.{marksOrder, underAnswer, underAfter, winnerAnswer, winnerAfter, indicesAnswer, indicesAfter, viewIndexed}
 use Rattle.pick.specs.declared.indices.Indexed.{Indexed}

@@ -1,6 +1,6 @@
 -- What a run gives and writes, one law for each way out. Assumes nothing.
 use mathlib.Core.Path.{_≡_, refl, sym, ap, _∙_}
-use mathlib.Core.Bool.{true, false}
+use mathlib.Core.Bool.{false}
 use mathlib.Core.List.{List, _∷_, _++_, append-assoc}
 use Prim.Native.Nat.{ℕ, zero, suc, _+_, _-_, _*_, _≤_}
 use native.Mathlib.Nat.{zero-add}
@@ -20,15 +20,13 @@ use Rattle.sheet.specs.declared.model.Model.{Model}
 use Rattle.sheet.proofs.Places.{count}
 use Rattle.book.specs.Score.{close, countIn}
 use Rattle.book.specs.Book.{Winner}
-use Rattle.book.specs.Calls.{isRefusal, numberIn}
 use Rattle.book.proofs.Clear.{count-within}
 use Rattle.fields.specs.Fields.{bytesOf, doubleBytes}
 use Rattle.fields.proofs.Writing.{word-wide, double-wide}
-use Rattle.score.specs.Distances.{distancesOf, indicesIn, cramped, indexed, indexCount}
-use Rattle.score.proofs.Walk.{ds-length}
-use Rattle.pick.specs.Run.{viewWinner, viewBest, bookOf, viewOutcome}
-use Rattle.pick.specs.declared.run_state.Outcome.{Outcome}
-use Rattle.pick.specs.declared.run_state.Outcome.the-variants as Outcomes
+use Rattle.measure.specs.Distances.{distancesOf}
+use Rattle.score.specs.Places.{indicesIn, cramped, indexed, indexCount}
+use Rattle.measure.proofs.Squares.{distances-count}
+use Rattle.pick.specs.Run.{viewWinner, viewBest, bookOf}
 use Rattle.pick.specs.declared.run_state.Winner as State
 use Rattle.pick.specs.declared.run_state.Best.the-variants.{Nothing, Held}
 use Rattle.pick.specs.declared.run_state.State.{State}
@@ -143,7 +141,7 @@ module _ (h : Model) (thresh : Float) (l : List Float) (entry : List ℕ) (short
     xs = indicesIn thresh ds
 
     most : length ds ≤ 2000
-    most = let a = ds-length thresh l h in let b = count l in omega (arith, a, b, short)
+    most = let a = distances-count l h in let b = count l in omega (arith, a, b, short)
 
     not-cramped : cramped ds places ≡ false
     unfolding cramped
@@ -171,29 +169,6 @@ module _ (h : Model) (thresh : Float) (l : List Float) (entry : List ℕ) (short
     unfolding laidOver indexBytes
     indices-laid room e =
         let m = xs-few in
-        let a = ds-length thresh l h in
+        let a = distances-count l h in
         let b = forEach-length (bytesOf 4) 4 word-wide xs in
         e ∙ ap (λ ys. filled (forEach (bytesOf 4) ys) entry) indices-taken ∙ filled-is (forEach (bytesOf 4) xs) entry (omega (arith, m, a, b, room))
-
--- ---- an outcome
-
-module _ {q : Outcome} where
-  pub refused-is : {k : ℕ} → q ≡ Outcomes.Refused k → (true ≡ isRefusal (viewOutcome q)) × (k ≡ numberIn (viewOutcome q))
-  unfolding viewOutcome isRefusal numberIn
-  refused-is e = (rw e, rw e)
-
-  pub empty-is : q ≡ Outcomes.Empty → (false ≡ isRefusal (viewOutcome q)) × (0 ≡ numberIn (viewOutcome q))
-  unfolding viewOutcome isRefusal numberIn
-  empty-is e = (rw e, rw e)
-
-  pub few-is : {k : ℕ} → q ≡ Outcomes.Few k → (false ≡ isRefusal (viewOutcome q)) × (0 ≡ numberIn (viewOutcome q))
-  unfolding viewOutcome isRefusal numberIn
-  few-is e = (rw e, rw e)
-
-  pub held-is : {k : ℕ} {x : Float} → q ≡ Outcomes.Held k x → (false ≡ isRefusal (viewOutcome q)) × (0 ≡ numberIn (viewOutcome q))
-  unfolding viewOutcome isRefusal numberIn
-  held-is e = (rw e, rw e)
-
-  pub won-is : {k : ℕ} {x : Float} → q ≡ Outcomes.Won k x → (false ≡ isRefusal (viewOutcome q)) × (0 ≡ numberIn (viewOutcome q))
-  unfolding viewOutcome isRefusal numberIn
-  won-is e = (rw e, rw e)

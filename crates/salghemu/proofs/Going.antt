@@ -1,14 +1,16 @@
 -- The trials of a run, one after the other: what is read up to place i, and what the run still comes to. Assumes nothing.
 use mathlib.Core.Path.{_≡_, refl, sym, ap, subst, _∙_}
-use mathlib.Core.Bool.{Bool, true, false}
+use mathlib.Core.Bool.{Bool, true, false, cond}
 use mathlib.Core.List.{List, [], _∷_}
 use Prim.Native.Nat.{ℕ, _+_, _*_, _/_, _≤_, _<_}
 use native.Mathlib.Numerals.{add-one}
+use native.Mathlib.Omega.{arith}
 use borrow.Author.Tests.{le-leb, lt-leb, ltb-false}
 use lib.Dec.{ltb, eqb}
 use lib.ListN.{length, take, drop, length-map, List·getD-map, drop-of-length-le}
 use lib.Seq.{drop-cons}
 use lib.Ieee.{Float}
+use Rattle.rule.specs.Answer.{refused, gives}
 use Rattle.rule.specs.Order.{firstFailed}
 use Rattle.rule.specs.Lists.{partsOf}
 use Rattle.rule.proofs.Tests.{neither}
@@ -17,7 +19,7 @@ use Rattle.rule.proofs.Lists.{parts-count, part-at}
 use Rattle.sheet.specs.Marks.{marksOf, marksTests}
 use Rattle.sheet.specs.declared.model.Model.{Model}
 use Rattle.book.specs.Score.{Judged}
-use Rattle.book.specs.Book.{Book, Entered, entered, hasEnded, called, fresh}
+use Rattle.book.specs.Book.{Book, Entered, entered, endedAt, hasEnded, called, fresh}
 use Rattle.book.specs.Calls.{tried, isRefusal, numberIn}
 use Rattle.book.specs.Rule.{Stopped, broken, runOver}
 use Rattle.book.proofs.Along.{Counts, counts-fresh, counts-next, tried-called, called-open}
@@ -25,11 +27,12 @@ use Rattle.book.proofs.Runs.{run-out, run-late, run-on, run-broken}
 use Rattle.records.specs.Options.{thresh, confidence, iters, optionsTests}
 use Rattle.records.specs.declared.options.RansacOptions.{RansacOptions}
 use Rattle.judge.specs.Judging.{ruleOf, Call, judgeOf, judgeTested}
-use Rattle.pick.specs.Run.{Run, Answer, bookOf, viewState, viewOutcome, viewTried}
+use Rattle.pick.specs.Run.{Run, Answer, bookOf, viewState}
 use Rattle.pick.specs.Opening.{freshRun}
-use Rattle.pick.specs.Trial.{answerOf, triedWith, stepAnswer}
+use Rattle.pick.specs.Trial.{answerOf, triedWith, stepAnswer, nextOf, viewNext}
 use Rattle.pick.specs.declared.run_state.State.{State}
-use Rattle.pick.specs.declared.run_state.Tried.{Tried}
+use Rattle.pick.specs.declared.advancing.Next.{Next}
+use Rattle.pick.specs.declared.advancing.Next.the-variants as Nexts
 use Rattle.pick.proofs.Order.{same-judged}
 use Rattle.salghemu.specs.Whole.{recordsIn, callWith, judgedIn, stopOf, viewRan}
 use Rattle.salghemu.specs.declared.Ran.the-variants as Ran
@@ -42,6 +45,24 @@ few-iters o h =
     let b = first-passed (confidence o) _ tt (a .1) in
     let c = first-passed (iters o) [] tt (b .1) in
     ltb-false 100000 (o .«max_iters») (neither (eqb (o .«max_iters») 0) (ltb 100000 (o .«max_iters»)) (c .0) .1)
+
+-- ---- what a step without an outcome says
+
+next-refused : (a : Answer) (k : ℕ) → refused k ≡ nextOf a → (isRefusal (a .outcome) ≡ true) × (k ≡ numberIn (a .outcome))
+unfolding nextOf
+next-refused a k h = go (isRefusal (a .outcome)) h
+  where
+    go : (b : Bool) → refused k ≡ cond b (refused (numberIn (a .outcome))) (gives (a .run)) → (b ≡ true) × (k ≡ numberIn (a .outcome))
+    go true e = (refl, cc)
+    go false e = absurd (let z : _≡_ {A = ℕ} 0 1 = cc in omega (arith, z))
+
+next-read : (a : Answer) (r : Run) → gives r ≡ nextOf a → (isRefusal (a .outcome) ≡ false) × (r ≡ a .run)
+unfolding nextOf
+next-read a r h = go (isRefusal (a .outcome)) h
+  where
+    go : (b : Bool) → gives r ≡ cond b (refused (numberIn (a .outcome))) (gives (a .run)) → (b ≡ false) × (r ≡ a .run)
+    go true e = absurd (let z : _≡_ {A = ℕ} 0 1 = cc in omega (arith, z))
+    go false e = (refl, cc)
 
 -- ---- a run over marks l and stop entries `table`
 
@@ -87,7 +108,7 @@ module _ (o : RansacOptions) (l : List Float) (table trials : List ℕ) where
 
   module _ {i : ℕ} {s : State} (g : Going i s) where
     pub going-late : s .bound ≤ s .read → viewRan (Ran.Stopped s) ≡ whole
-    unfolding viewRan hasEnded bookOf
+    unfolding viewRan hasEnded endedAt bookOf
     going-late h = run-late (ruleOf o) (bookOf s) (le-leb (s .bound) (s .read) h) (drop i js) ∙ g .owed
 
     pub going-out : length trials / 152 ≤ i → viewRan (Ran.Stopped s) ≡ whole
@@ -102,7 +123,7 @@ module _ (o : RansacOptions) (l : List Float) (table trials : List ℕ) where
       next = entered (ruleOf o) (bookOf s) (judged bytes)
 
       still : hasEnded (bookOf s) ≡ false
-      unfolding hasEnded bookOf
+      unfolding hasEnded endedAt bookOf
       still = lt-leb (s .bound) (s .read) early
 
       called-is : called (ruleOf o) (bookOf s) (judged bytes) ≡ next
@@ -120,43 +141,38 @@ module _ (o : RansacOptions) (l : List Float) (table trials : List ℕ) where
           ∙ tried-called (ruleOf o) (few-iters o valid) (bookOf s) (judged bytes) (g .counts)
           ∙ called-is
 
-      module _ (t : Tried) {w : ℕ} (step : viewTried t ≡ stepAnswer (viewState s) (record { bytes = take w (drop (152 * i) trials); marks = l; stops = table })) (wide : w ≡ 152) where
-        of-152 : viewTried t ≡ stepAnswer (viewState s) call
-        of-152 = step ∙ ap (λ (k : ℕ). stepAnswer (viewState s) (record { bytes = take k (drop (152 * i) trials); marks = l; stops = table })) wide
+      owed-is : runOver (ruleOf o) (bookOf s) (judged bytes ∷ drop (i + 1) js) ≡ whole
+      owed-is = ap (runOver (ruleOf o) (bookOf s)) (sym (js-from i here)) ∙ g .owed
 
-        steps : viewTried t ≡ answerOf (viewState s) next
+      module _ (r : Next) {w : ℕ} (step : viewNext r ≡ nextOf (stepAnswer (viewState s) (record { bytes = take w (drop (152 * i) trials); marks = l; stops = table }))) (wide : w ≡ 152) where
+        of-152 : viewNext r ≡ nextOf (stepAnswer (viewState s) call)
+        of-152 = step ∙ ap (λ (k : ℕ). nextOf (stepAnswer (viewState s) (record { bytes = take k (drop (152 * i) trials); marks = l; stops = table }))) wide
+
+        nexts : viewNext r ≡ nextOf (answerOf (viewState s) next)
         unfolding stepAnswer triedWith viewState
-        steps = of-152 ∙ ap (answerOf (viewState s)) tried-is
+        nexts = of-152 ∙ ap (λ (x : Entered Model). nextOf (answerOf (viewState s) x)) tried-is
 
-        outcome-is : viewOutcome (t .outcome) ≡ next .answer
-        unfolding viewTried answerOf
-        outcome-is = ap (λ (a : Answer). a .outcome) steps
+        pub going-broken : {k : ℕ} → r ≡ Nexts.Refused k → viewRan (Ran.Broken k) ≡ whole
+        unfolding viewRan viewNext answerOf
+        going-broken {k} e =
+            let told = next-refused (answerOf (viewState s) next) k (ap viewNext (sym e) ∙ nexts) in
+            ap broken (told .1) ∙ run-broken (ruleOf o) (bookOf s) still (drop (i + 1) js) (judged bytes) (told .0) ∙ owed-is
 
-        owed-is : runOver (ruleOf o) (bookOf s) (judged bytes ∷ drop (i + 1) js) ≡ whole
-        owed-is = ap (runOver (ruleOf o) (bookOf s)) (sym (js-from i here)) ∙ g .owed
-
-        module _ {b : Bool} (refused : b ≡ isRefusal (viewOutcome (t .outcome))) where
-          pub going-broken : b ≡ true → {k : ℕ} → k ≡ numberIn (viewOutcome (t .outcome)) → viewRan (Ran.Broken k) ≡ whole
-          unfolding viewRan
-          going-broken h e =
-              ap broken (e ∙ ap numberIn outcome-is)
-              ∙ run-broken (ruleOf o) (bookOf s) still (drop (i + 1) js) (judged bytes) (ap isRefusal (sym outcome-is) ∙ sym refused ∙ h)
-              ∙ owed-is
-
-          pub going-on : b ≡ false → Going (i + 1) (t .state)
-          unfolding viewTried viewState answerOf
-          going-on h =
-              let r = ap (λ (a : Answer). a .run) steps in
-              let book : bookOf (t .state) ≡ next .book = ap (λ (x : Run). x .book) r in
-              record {
-                options = ap (λ (x : Run). x .options) r ∙ g .options;
-                marks = ap (λ (x : Run). x .n) r ∙ g .marks;
-                counts = rw (book, ← called-is) (counts-next (ruleOf o) (bookOf s) (judged bytes) (g .counts));
-                owed =
-                    ap (λ (x : Book Model). runOver (ruleOf o) x (drop (i + 1) js)) book
-                    ∙ sym (run-on (ruleOf o) (bookOf s) still (drop (i + 1) js) (judged bytes) (ap isRefusal (sym outcome-is) ∙ sym refused ∙ h))
-                    ∙ owed-is;
-              }
+        pub going-on : {t : State} → r ≡ Nexts.Read t → Going (i + 1) t
+        unfolding viewNext viewState answerOf
+        going-on {t} e =
+            let told = next-read (answerOf (viewState s) next) (viewState t) (ap viewNext (sym e) ∙ nexts) in
+            let run = told .1 in
+            let book : bookOf t ≡ next .book = ap (λ (x : Run). x .book) run in
+            record {
+              options = ap (λ (x : Run). x .options) run ∙ g .options;
+              marks = ap (λ (x : Run). x .n) run ∙ g .marks;
+              counts = rw (book, ← called-is) (counts-next (ruleOf o) (bookOf s) (judged bytes) (g .counts));
+              owed =
+                  ap (λ (x : Book Model). runOver (ruleOf o) x (drop (i + 1) js)) book
+                  ∙ sym (run-on (ruleOf o) (bookOf s) still (drop (i + 1) js) (judged bytes) (told .0))
+                  ∙ owed-is;
+            }
 
 -- ---- a run that was opened with options o has these
 

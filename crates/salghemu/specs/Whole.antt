@@ -21,7 +21,8 @@ use Rattle.fields.specs.Fields.{wordsOf, bytesOf, doubleBytes}
 use Rattle.records.specs.Options.{optionsRecord, optionsOf, optionsTests}
 use Rattle.records.specs.Marks.{numbersIn}
 use Rattle.records.specs.declared.options.RansacOptions.{RansacOptions}
-use Rattle.score.specs.Distances.{distancesOf, indicesIn}
+use Rattle.measure.specs.Distances.{distancesOf}
+use Rattle.score.specs.Places.{indicesIn}
 use Rattle.judge.specs.Judging.{ruleOf, Call, judgeOf}
 use Rattle.pick.specs.Run.{bookOf}
 use Rattle.salghemu.specs.declared.Ran.{Ran}

@@ -1,9 +1,9 @@
 // The whole run for a table's C program (document 01, 'Winner'): options, marks, stops and trials as
 // bytes, and two lent outputs. Everything is decoded once and the marks are tested once; then each
-// trial costs a walk over the marks for each model that is counted, and one more, with the roots,
-// for the model that stands.
+// trial costs a walk over the marks for each model that is counted, and one over their squares. Roots
+// are taken for a trial that may win.
 use pick::Best;
-use pick::Outcome;
+use pick::Next;
 use pick::State;
 use pick::Winner;
 use records::OptionsRead;
@@ -14,41 +14,15 @@ ghost use Prim.Native.Nat.{_*_, _%_, _≤_};
 ghost use lib.ListN.{length};
 ghost use Rattle.rule.specs.Order.{firstFailed};
 ghost use Rattle.sheet.specs.Marks.{marksOf, marksTests};
-ghost use Rattle.book.specs.Calls.{isRefusal, numberIn};
 ghost use Rattle.records.specs.Options.{optionsOf, optionsTests};
 ghost use Rattle.records.specs.Marks.{numbersIn};
-ghost use Rattle.pick.specs.Run.{viewWinner, viewOutcome};
+ghost use Rattle.pick.specs.Run.{viewWinner};
 ghost use Rattle.salghemu.specs.Whole.{laterTests, stopOf, recordsIn, viewRan, winnerBytes, indexBytes, laidOver, laterAnswer, optionsAnswer, runAnswer, resultOf, Gave};
 
 // How the trials ended: at the bound or the end of the list, or with a refused trial's number.
 enum Ran {
     Stopped(State),
     Broken(u32),
-}
-
-fn is_refusal(outcome: Outcome) -> bool
-    ensures { λ r. ⌜ r ≡ isRefusal (viewOutcome outcome) ⌝ }
-{
-    match outcome {
-        Outcome::Refused(_) => true,
-        Outcome::Empty => false,
-        Outcome::Few(_) => false,
-        Outcome::Held(_, _) => false,
-        Outcome::Won(_, _) => false,
-    }
-}
-
-// The refusal's number; 0 for any other outcome.
-fn number_in(outcome: Outcome) -> u32
-    ensures { λ r. ⌜ r ≡ numberIn (viewOutcome outcome) ⌝ }
-{
-    match outcome {
-        Outcome::Refused(k) => k,
-        Outcome::Empty => 0,
-        Outcome::Few(_) => 0,
-        Outcome::Held(_, _) => 0,
-        Outcome::Won(_, _) => 0,
-    }
 }
 
 // Reads trials to the bound, the end of the list or the first that is refused. The marks are tested.
@@ -59,6 +33,7 @@ fn read_trials(o: RansacOptions, marks: &[f64], stops: &[u32], trials: &[u8]) ->
 {
     let n = sheet::mark_count(marks);
     let count = trials.len() / 152;
+    let mut squares = [0.0; 2000];
     let mut s = pick::fresh_run(o, n);
     let mut i = 0;
     while i < count {
@@ -68,12 +43,10 @@ fn read_trials(o: RansacOptions, marks: &[f64], stops: &[u32], trials: &[u8]) ->
         let a = 152 * i;
         let e = a + 152;
         i += 1;
-        let tried = pick::step(s, &trials[a..e], marks, stops);
-        let outcome = tried.outcome;
-        if is_refusal(outcome) {
-            return Ran::Broken(number_in(outcome));
+        match pick::advance(s, &trials[a..e], marks, stops, &mut squares) {
+            Next::Refused(k) => return Ran::Broken(k),
+            Next::Read(next) => s = next,
         }
-        s = tried.state;
     }
     Ran::Stopped(s)
 }
@@ -96,8 +69,9 @@ fn put_indices(h: Model, thresh: f64, marks: &[f64], indices: &mut [u8])
     requires { ⌜ 4 * length (marksOf (now marks)) ≤ length (now indices) ⌝ }
     ensures { λ _. ⌜ now (indices .exit) ≡ laidOver (indexBytes thresh (now (marks .entry)) h) (now (indices .entry)) ⌝ }
 {
+    let mut squares = [0.0; 2000];
     let mut places = [0; 2000];
-    let count = score::write_inliers(h, thresh, marks, &mut places);
+    let count = judge::write_inliers(h, thresh, marks, &mut squares, &mut places);
     fields::write_words(&places[..count], indices);
 }
 

@@ -1,52 +1,32 @@
 -- The threshold's limits: what a square says of its root without the root. Assumes nothing.
 use mathlib.Core.Path.{_≡_, refl, sym, ap, subst, _∙_}
-use mathlib.Core.Bool.{Bool, true, false, cond}
-use Prim.Native.Nat.{_*_, _<_}
+use mathlib.Core.Bool.{Bool, true, false, not, cond, _&&_, _||_}
+use Prim.Native.Nat.{ℕ, zero, suc, _*_}
 use native.Mathlib.Omega.{arith}
-use borrow.Author.Tests.{ltb-true}
-use lib.Dec.{T}
-use lib.Ieee.{Float, nan, inf, fin, binary64, up, down, ofBits, fits, isNan, lt, le, eq, div}
-use lib.Ieee.Fits.{add-fits, mul-fits}
-use lib.Ieee.Bits.{is-true}
-use Rattle.rule.specs.Arith.{clear, _⊖_, _⊗_, _⊘_}
-use Rattle.rule.proofs.Tests.{clash, is-test}
+use native.Mathlib.Nat.{zero-add, add-zero}
+use borrow.Author.Tests.{lt-ltb, le-ltb, ne-eqb, not-false}
+use lib.Dec.{T, eqb, eqb·suc-zero}
+use lib.IntN.{ℤ, pos}
+use lib.Ieee.{Float, nan, inf, fin, binary64, up, down, ofBits, fits, isNan, lt, le, eq, div, below, level}
+use lib.Ieee.Fits.{mul-fits}
+use lib.Ieee.Bits.{is-true, ofBits-fits}
+use Rattle.rule.specs.Arith.{clear, _⊗_, _⊘_}
+use Rattle.rule.proofs.Tests.{clash, is-test, or-true}
+use Rattle.rule.proofs.Zero.{size-pos, no-size}
 use Rattle.root.specs.Root.{rootOf}
 use Rattle.root.proofs.Monotone.{root-monotone}
-use Rattle.numbers.specs.Constants.{zero′, infinity}
-use Rattle.sheet.specs.Marks.{pointOf, squaredApart}
-use Rattle.sheet.specs.Distance.{projectionOf}
-use Rattle.sheet.specs.declared.marks.Mark.{Mark}
-use Rattle.sheet.specs.declared.marks.Point.{Point}
-use Rattle.sheet.specs.declared.marks.Side.the-variants.{Sheet, Pixel}
-use Rattle.sheet.specs.declared.model.Model.{Model}
-use Rattle.book.proofs.Clear.{squares-clear, clear-hasRoot, root-clear}
-use Rattle.book.proofs.ClearOrder.{not-lt, lt-le-trans}
-use Rattle.score.specs.Distances.{squaredOf}
-use Rattle.score.specs.Limits.{Low, High, Settles, Squared}
+use Rattle.numbers.specs.Constants.{zero′}
+use Rattle.book.proofs.Clear.{clear-hasRoot, root-clear}
+use Rattle.book.proofs.ClearOrder.{lt-le-trans, lt-not-le, le-trans-clear, over-clear}
+use Rattle.score.specs.Limits.{Low, High, Settles, surely, possibly}
 use Rattle.score.specs.declared.Limits.{Limits}
 
 pub settled-own : {thresh : Float} {l : Limits} → Settles thresh l → Settles (l .thresh) l
 settled-own {thresh} {l} s = subst (λ t. Settles t l) (sym (s .same)) s
 
--- ---- the square of a distance is of clear sign, or a NaN
-
-apart-squared : (p q : Point) → Squared (squaredApart p q)
-unfolding squaredApart
-apart-squared p q = record { double = add-fits binary64 _ _; sign = squares-clear (p .x ⊖ q .x) (p .y ⊖ q .y) }
-
-inf-squared : Squared infinity
-unfolding ofBits fits clear
-inf-squared = record { double = tt; sign = λ h. tt }
-
-cond-squared : (b : Bool) (x y : Float) → Squared x → Squared y → Squared (cond b x y)
-cond-squared true x y p q = p
-cond-squared false x y p q = q
-
-pub squared : (h : Model) (m : Mark) → Squared (squaredOf h m)
-unfolding squaredOf
-squared h m =
-    let to = projectionOf h (pointOf Sheet m) in
-    cond-squared (lt zero′ (to .s)) (squaredApart (to .at) (pointOf Pixel m)) infinity (apart-squared (to .at) (pointOf Pixel m)) inf-squared
+-- a test against the limits' own threshold
+pub own-test : {thresh : Float} {l : Limits} (d : Float) (b : Bool) → Settles thresh l → b ≡ le d (l .thresh) → b ≡ le d thresh
+own-test d b s h = h ∙ ap (le d) (s .same)
 
 -- ---- a square, against the limits
 
@@ -67,45 +47,98 @@ right-number (fin s m e) nan h = clash h refl
 right-number (fin s m e) (inf t) h = refl
 right-number (fin s m e) (fin t n d) h = refl
 
-module _ {l : Limits} {d : Float} (settled : Settles (l .thresh) l) (square : Squared d) where
-  pub close-beyond : le (l .high) d ≡ true → false ≡ le (rootOf d) (l .thresh)
-  close-beyond h = sym (settled .high .beyond d (square .double) (square .sign (right-number (l .high) d h)) h)
+-- all zeros compare alike
+both-zero : (s t : Bool) → (below s 0 t 0 || level s 0 t 0) ≡ true
+both-zero true true = refl
+both-zero true false = refl
+both-zero false true = refl
+both-zero false false = refl
 
-  pub close-within : le d (l .low) ≡ true → true ≡ le (rootOf d) (l .thresh)
-  close-within h = sym (settled .low .within d (square .double) (square .sign (left-number d (l .low) h)) h)
+none-level : (n : ℕ) (d e : ℤ) → eqb 0 (suc n * up d * down e) ≡ false
+none-level n d e = let p = size-pos n d e in ne-eqb 0 (suc n * up d * down e) (λ z. absurd (omega (arith, p, z)))
+
+level-none : (n : ℕ) (d e : ℤ) → eqb (suc n * up d * down e) 0 ≡ false
+level-none n d e = let p = size-pos n d e in ne-eqb (suc n * up d * down e) 0 (λ z. absurd (omega (arith, p, z)))
+
+zero-first : (s : Bool) (e : ℤ) (t : Bool) (n : ℕ) (d : ℤ) → le (fin s zero e) (fin t n d) ≡ (not t || eqb n 0)
+unfolding le lt eq
+zero-first s e t zero d = rw (no-size e d, no-size d e) (both-zero s t ∙ sym (or-true (not t)))
+zero-first true e false (suc n) d = rw (no-size e d, zero-add (suc n * up d * down e), lt-ltb 0 (suc n * up d * down e) (size-pos n d e))
+zero-first false e false (suc n) d = rw (no-size e d, lt-ltb 0 (suc n * up d * down e) (size-pos n d e))
+zero-first true e true (suc n) d = rw (no-size e d, le-ltb (suc n * up d * down e) 0 Prim.Native.Nat.zero-le, none-level n d e, eqb·suc-zero n)
+zero-first false e true (suc n) d = rw (no-size e d, none-level n d e, eqb·suc-zero n)
+
+zero-last : (s : Bool) (e : ℤ) (t : Bool) (n : ℕ) (d : ℤ) → le (fin t n d) (fin s zero e) ≡ (t || eqb n 0)
+unfolding le lt eq
+zero-last s e t zero d = rw (no-size e d, no-size d e) (both-zero t s ∙ sym (or-true t))
+zero-last false e false (suc n) d = rw (no-size e d, le-ltb (suc n * up d * down e) 0 Prim.Native.Nat.zero-le, level-none n d e, eqb·suc-zero n)
+zero-last true e false (suc n) d = rw (no-size e d, level-none n d e, eqb·suc-zero n)
+zero-last false e true (suc n) d = rw (no-size e d, add-zero (suc n * up d * down e), lt-ltb 0 (suc n * up d * down e) (size-pos n d e))
+zero-last true e true (suc n) d = rw (no-size e d, lt-ltb 0 (suc n * up d * down e) (size-pos n d e))
+
+zero-le : (s : Bool) (e : ℤ) (x : Float) → le (fin s zero e) x ≡ le zero′ x
+unfolding ofBits le lt eq
+zero-le s e nan = refl
+zero-le s e (inf t) = refl
+zero-le s e (fin t n d) = zero-first s e t n d ∙ sym (zero-first false (pos 0) t n d)
+
+le-zero : (s : Bool) (e : ℤ) (x : Float) → le x (fin s zero e) ≡ le x zero′
+unfolding ofBits le lt eq
+le-zero s e nan = refl
+le-zero s e (inf t) = refl
+le-zero s e (fin t n d) = zero-last s e t n d ∙ sym (zero-last false (pos 0) t n d)
+
+pub zero-clear : T (clear zero′)
+unfolding ofBits clear
+zero-clear = tt
+
+zero-fits : T (fits binary64 zero′)
+zero-fits = ofBits-fits binary64 0
+
+root-zero : (s : Bool) (e : ℤ) (thresh : Float) → le (rootOf (fin s zero e)) thresh ≡ le (rootOf zero′) thresh
+unfolding rootOf ofBits
+root-zero s e thresh = zero-le s e thresh
+
+module _ {thresh : Float} {l : Limits} (settled : Settles thresh l) where
+  -- a square from `high` on is not within, whether or not it has a root
+  pub surely-beyond : (q : Float) → T (fits binary64 q) → le (l .high) q ≡ true → le (rootOf q) thresh ≡ false
+  unfolding rootOf clear le lt eq
+  surely-beyond nan f h = refl
+  surely-beyond (inf true) f h = refl
+  surely-beyond (inf false) f h = settled .high .beyond (inf false) f tt h
+  surely-beyond (fin s zero e) f h = root-zero s e thresh ∙ settled .high .beyond zero′ zero-fits zero-clear (sym (le-zero s e (l .high)) ∙ h)
+  surely-beyond (fin true (suc m) e) f h = refl
+  surely-beyond (fin false (suc m) e) f h = settled .high .beyond (fin false (suc m) e) f tt h
+
+  -- one that has a root, up to `low`, is within
+  pub surely-within : (q : Float) → T (fits binary64 q) → le zero′ q ≡ true → le q (l .low) ≡ true → le (rootOf q) thresh ≡ true
+  unfolding clear ofBits le lt eq
+  surely-within nan f z h = clash h refl
+  surely-within (inf true) f z h = clash z refl
+  surely-within (inf false) f z h = settled .low .within (inf false) f tt h
+  surely-within (fin s zero e) f z h = root-zero s e thresh ∙ settled .low .within zero′ zero-fits zero-clear (sym (zero-le s e (l .low)) ∙ h)
+  surely-within (fin true (suc m) e) f z h = clash z (zero-first false (pos 0) true (suc m) e ∙ eqb·suc-zero m)
+  surely-within (fin false (suc m) e) f z h = settled .low .within (fin false (suc m) e) f tt h
+
+-- the answers of the tests
+module _ {l : Limits} (q : Float) (settled : Settles (l .thresh) l) (double : T (fits binary64 q)) where
+  pub sure-by-low : le zero′ q ≡ true → (le q (l .low) ≡ surely l q) × (le q (l .low) ≡ true → le (rootOf q) (l .thresh) ≡ true)
+  unfolding surely
+  sure-by-low z = (rw z, surely-within settled q double z)
+
+  pub possible-by-high : (not (le (l .high) q) ≡ possibly l q) × (not (le (l .high) q) ≡ false → le (rootOf q) (l .thresh) ≡ false)
+  unfolding possibly
+  possible-by-high = (refl, λ h. surely-beyond settled q double (not-false (le (l .high) q) h))
+
+pub not-sure : (l : Limits) (q : Float) → le zero′ q ≡ false → (false ≡ surely l q) × (false ≡ true → le (rootOf q) (l .thresh) ≡ true)
+unfolding surely
+not-sure l q z = (rw z, λ h. absurd (clash h refl))
 
 -- ---- the limits themselves
 
-lt-self : (x : Float) → T (clear x) → lt x x ≡ true → ⊥
-unfolding clear lt
-lt-self nan c h = absurd c
-lt-self (inf true) c h = absurd c
-lt-self (inf false) c h = clash h refl
-lt-self (fin true m e) c h = absurd c
-lt-self (fin false m e) c h = let l : m * up e * down e < m * up e * down e = ltb-true (m * up e * down e) (m * up e * down e) h in omega (arith, l)
-
-lt-not-le : (x y : Float) → T (clear x) → T (clear y) → lt x y ≡ true → le y x ≡ false
-lt-not-le x y p q h = go (le y x) refl
-  where
-    go : (b : Bool) → le y x ≡ b → b ≡ false
-    go true g = absurd (lt-self x p (lt-le-trans x y x p q p h (is-test (le y x) g)))
-    go false g = refl
-
-le-trans : (x y z : Float) → T (clear x) → T (clear y) → T (clear z) → T (le x y) → le y z ≡ true → le x z ≡ true
-le-trans x y z p q r h k = go (lt z x) refl
-  where
-    go : (b : Bool) → lt z x ≡ b → le x z ≡ true
-    go true g = clash k (lt-not-le z y r q (lt-le-trans z x y r p q g h))
-    go false g = is-true (le x z) (not-lt z x r p g)
-
 -- what is above 0 is clear
-above-clear : (t : Float) → lt zero′ t ≡ true → T (clear t)
-unfolding lt ofBits clear
-above-clear nan h = clash h refl
-above-clear (inf true) h = clash h refl
-above-clear (inf false) h = tt
-above-clear (fin true m e) h = clash h refl
-above-clear (fin false m e) h = tt
+pub above-clear : (t : Float) → lt zero′ t ≡ true → T (clear t)
+above-clear t h = over-clear zero′ t zero-clear h
 
 -- below and above a limit that is a double above 0
 module _ (thresh a b : Float) {root : Float} (sign : lt zero′ thresh ≡ true) (above : lt zero′ (a ⊗ b) ≡ true) (is : root ≡ rootOf (a ⊗ b)) where
@@ -118,7 +151,7 @@ module _ (thresh a b : Float) {root : Float} (sign : lt zero′ thresh ≡ true)
   pub low-limit : le root thresh ≡ true → Low thresh (a ⊗ b)
   low-limit h =
       record {
-        within = λ d f c g. le-trans (rootOf d) (rootOf limit) thresh (root-clear d f c) limit-root (above-clear thresh sign) (root-monotone d limit f (mul-fits binary64 a b) (clear-hasRoot d c) (is-test (le d limit) g)) (ap (λ r. le r thresh) (sym is) ∙ h);
+        within = λ d f c g. is-true (le (rootOf d) thresh) (le-trans-clear (rootOf d) (rootOf limit) thresh (root-clear d f c) limit-root (above-clear thresh sign) (root-monotone d limit f (mul-fits binary64 a b) (clear-hasRoot d c) (is-test (le d limit) g)) (is-test (le (rootOf limit) thresh) (ap (λ r. le r thresh) (sym is) ∙ h)));
       }
 
   pub high-limit : lt thresh root ≡ true → High thresh (a ⊗ b)

@@ -1,2 +1,3 @@
-pub mod Distances
+pub mod Places
 pub mod Limits
+pub mod Less

@@ -1,17 +1,17 @@
-// How the marks agree with a model (document 01, 'Trials'): how many lie within the threshold, the
-// root mean square of their distances, and which they are. One walk over the marks each, and no list
-// of distances. (In the terms of the field, the support of a hypothesis.)
-use sheet::Mark;
-use sheet::Model;
-use sheet::Side;
+// How distances agree with a threshold (document 01, 'Trials'): how many are within it, the root mean
+// square of those, and which they are. All is read from a list of the distances' squares, which a
+// family's measuring has filled: nothing here knows a model or a mark. (In the terms of the field, the
+// support of a hypothesis.) Roots are the cost, so none is taken that the answer doesn't need.
 ghost use mathlib.Core.Path.{_≡_};
-ghost use mathlib.Core.Bool.{cond};
+ghost use mathlib.Core.Bool.{cond, true, false};
+ghost use mathlib.Core.List.{map};
 ghost use Prim.Native.Nat.{_≤_};
 ghost use lib.Ieee.{le};
 ghost use Rattle.root.specs.Root.{rootOf};
-ghost use Rattle.book.specs.Score.{countIn, squaresIn, rmsIn};
-ghost use Rattle.score.specs.Distances.{distancesOf, squaredOf, indexCount, indexed};
-ghost use Rattle.score.specs.Limits.{Low, High, Settles, Squared};
+ghost use Rattle.book.specs.Score.{countIn, squaresIn, rmsOf};
+ghost use Rattle.score.specs.Places.{indexCount, indexed};
+ghost use Rattle.score.specs.Limits.{Low, High, Settles, surely, possibly, Tallied, addend, Under};
+ghost use Rattle.score.specs.Less.{lessOf};
 
 // A threshold, and the squared distances that it settles without a root: up to `low` they are within
 // it, from `high` on they are not.
@@ -21,10 +21,16 @@ struct Limits {
     high: f64,
 }
 
-// How many marks are within the threshold, and the sum of the squares of their distances.
-struct Sums {
-    count: usize,
-    squares: f64,
+// How many squares are within the threshold for sure, and how many may be.
+struct Tally {
+    sure: usize,
+    possible: usize,
+}
+
+// What `rms_if_less` answers: the root mean square, if it is less than the other.
+pub enum Less {
+    Below(f64),
+    NotBelow,
 }
 
 // Just below the threshold's square, where the root of that is at most the threshold. Else a NaN:
@@ -59,7 +65,7 @@ fn high_limit(thresh: f64) -> f64
     0.0 / 0.0
 }
 
-// Two roots for a walk over the marks spare one for each mark that isn't close to the threshold.
+// Two roots for a walk over the squares spare one for each that isn't close to the threshold's.
 fn limits_of(thresh: f64) -> Limits
     ensures { λ r. ⌜ Settles thresh r ⌝ }
 {
@@ -70,31 +76,40 @@ fn limits_of(thresh: f64) -> Limits
     }
 }
 
-// The square of the distance; infinite unless s > 0.
-fn squared_residual(h: Model, m: Mark) -> f64
-    ensures { λ r. ⌜ r ≡ squaredOf h m ⌝ }
+// Whether a square is within the threshold without a root.
+fn is_sure(limits: Limits, square: f64) -> bool
+    requires { ⌜ Settles (limits .thresh) limits ⌝ }
+    ensures { λ r. ⌜ r ≡ surely limits square ⌝ }
+    ensures { λ r. ⌜ (r ≡ true → le (rootOf square) (limits .thresh) ≡ true) ⌝ }
 {
-    let to = sheet::project(h, sheet::point_of(m, Side::Sheet));
-    if to.s > 0.0 {
-        sheet::squared_apart(to.at, sheet::point_of(m, Side::Pixel))
+    if 0.0 <= square {
+        square <= limits.low
     } else {
-        f64::from_bits(0x7ff0_0000_0000_0000)
+        false
     }
 }
 
-// Whether the root of a squared distance is at most the threshold.
+// Whether a square may be within it.
+fn is_possible(limits: Limits, square: f64) -> bool
+    requires { ⌜ Settles (limits .thresh) limits ⌝ }
+    ensures { λ r. ⌜ r ≡ possibly limits square ⌝ }
+    ensures { λ r. ⌜ (r ≡ false → le (rootOf square) (limits .thresh) ≡ false) ⌝ }
+{
+    !(limits.high <= square)
+}
+
+// Whether the root of a square is at most the threshold.
 fn is_close(limits: Limits, square: f64) -> bool
     requires { ⌜ Settles (limits .thresh) limits ⌝ }
-    requires { ⌜ Squared square ⌝ }
     ensures { λ r. ⌜ r ≡ le (rootOf square) (limits .thresh) ⌝ }
 {
-    if limits.high <= square {
-        return false;
-    }
-    if square <= limits.low {
+    if is_sure(limits, square) {
         return true;
     }
-    root::sqrt(square) <= limits.thresh
+    if is_possible(limits, square) {
+        return root::sqrt(square) <= limits.thresh;
+    }
+    false
 }
 
 fn one_if(b: bool) -> usize
@@ -103,62 +118,138 @@ fn one_if(b: bool) -> usize
     if b { 1 } else { 0 }
 }
 
-// How many marks are within the threshold under a model.
-pub fn count_inliers(h: Model, thresh: f64, marks: &[f64]) -> usize
-    ensures { λ r. ⌜ r ≡ countIn thresh (distancesOf (now (marks .entry)) h) ⌝ }
+// One plain walk: no root and no jump, so that the compiler can take two squares at a time.
+fn tally_of(limits: Limits, squares: &[f64]) -> Tally
+    requires { ⌜ Settles (limits .thresh) limits ⌝ }
+    ensures { λ r. ⌜ Tallied limits (now (squares .entry)) (r .sure) (r .possible) ⌝ }
 {
-    let limits = limits_of(thresh);
-    let n = sheet::mark_count(marks);
+    let mut sure = 0;
+    let mut possible = 0;
+    let mut i = 0;
+    while i < squares.len() {
+        let square = squares[i];
+        sure += one_if(is_sure(limits, square));
+        possible += one_if(is_possible(limits, square));
+        i += 1;
+    }
+    Tally { sure, possible }
+}
+
+// The count where the tally leaves some open: a root for each of those.
+fn count_by_roots(limits: Limits, squares: &[f64]) -> usize
+    requires { ⌜ Settles (limits .thresh) limits ⌝ }
+    ensures { λ r. ⌜ r ≡ countIn (limits .thresh) (map rootOf (now (squares .entry))) ⌝ }
+{
     let mut count = 0;
     let mut i = 0;
-    while i < n {
-        let square = squared_residual(h, sheet::mark_at(marks, i));
-        count += one_if(is_close(limits, square));
+    while i < squares.len() {
+        count += one_if(is_close(limits, squares[i]));
         i += 1;
     }
     count
 }
 
-// Their number, and the sum of the squares of their distances in index order from 0.
-fn sum_squares(h: Model, thresh: f64, marks: &[f64]) -> Sums
-    ensures { λ r. ⌜ (r .count ≡ countIn thresh (distancesOf (now (marks .entry)) h)) × (r .squares ≡ squaresIn thresh (distancesOf (now (marks .entry)) h)) ⌝ }
+// How many of the squares have a root within the threshold.
+pub fn count_inliers(thresh: f64, squares: &[f64]) -> usize
+    ensures { λ r. ⌜ r ≡ countIn thresh (map rootOf (now (squares .entry))) ⌝ }
 {
     let limits = limits_of(thresh);
-    let n = sheet::mark_count(marks);
-    let mut count = 0;
-    let mut squares = 0.0;
+    let t = tally_of(limits, squares);
+    if t.sure == t.possible {
+        return t.sure;
+    }
+    count_by_roots(limits, squares)
+}
+
+// The sum of the squares of the roots within the threshold, in index order from 0. A root is rounded
+// before it is squared, so the sum is not that of the squares in the list.
+fn sum_squares(thresh: f64, squares: &[f64]) -> f64
+    ensures { λ r. ⌜ r ≡ squaresIn thresh (map rootOf (now (squares .entry))) ⌝ }
+{
+    let limits = limits_of(thresh);
+    let mut sum = 0.0;
     let mut i = 0;
-    while i < n {
-        let square = squared_residual(h, sheet::mark_at(marks, i));
+    while i < squares.len() {
+        let square = squares[i];
         i += 1;
         if is_close(limits, square) {
             let d = root::sqrt(square);
-            squares += d * d;
-            count += 1;
+            sum += d * d;
         }
     }
-    Sums { count, squares }
+    sum
 }
 
-// The root mean square of the distances within the threshold under a model; infinite where there are
-// none. It is never a NaN.
-pub fn rms(h: Model, thresh: f64, marks: &[f64]) -> f64
-    ensures { λ r. ⌜ r ≡ rmsIn thresh (distancesOf (now (marks .entry)) h) ⌝ }
+// The root mean square of the roots within the threshold, by their number; infinite where that is 0.
+pub fn rms(thresh: f64, squares: &[f64], count: u32) -> f64
+    ensures { λ r. ⌜ r ≡ rmsOf count (squaresIn thresh (map rootOf (now (squares .entry)))) ⌝ }
 {
-    let sums = sum_squares(h, thresh, marks);
-    if sums.count == 0 {
+    if count == 0 {
         return f64::from_bits(0x7ff0_0000_0000_0000);
     }
-    root::sqrt(sums.squares / std::num::nearest_u64_to_f64(sums.count as u64))
+    root::sqrt(sum_squares(thresh, squares) / count as f64)
 }
 
-// Writes the places of the marks within the threshold to the front of `indices`, ascending, and
-// answers how many; nothing where it has not a place for each mark, or there are over 2,000.
-pub fn write_inliers(h: Model, thresh: f64, marks: &[f64], indices: &mut [u32]) -> usize
-    ensures { λ r. ⌜ r ≡ indexCount thresh (distancesOf (now (marks .entry)) h) (now (indices .entry)) ⌝ }
-    ensures { λ _. ⌜ now (indices .exit) ≡ indexed thresh (distancesOf (now (marks .entry)) h) (now (indices .entry)) ⌝ }
+// No more than what a square adds to the sum, and hardly less: the square of a double's root, rounded
+// twice, is not below the double less its 2^52nd part.
+fn least_addend(limits: Limits, square: f64) -> f64
+    requires { ⌜ Settles (limits .thresh) limits ⌝ }
+    ensures { λ r. ⌜ Under r (addend (limits .thresh) (rootOf square)) ⌝ }
 {
-    let n = sheet::mark_count(marks);
+    let least = square * 0.9999999999999998;
+    if 0.0 < square {
+        if square <= limits.low {
+            return least;
+        }
+    }
+    0.0
+}
+
+// No more than the sum of the squares, and hardly less unless it is `enough`. No root is taken.
+fn least_sum(limits: Limits, squares: &[f64], enough: f64) -> f64
+    requires { ⌜ Settles (limits .thresh) limits ⌝ }
+    ensures { λ r. ⌜ Under r (squaresIn (limits .thresh) (map rootOf (now (squares .entry)))) ⌝ }
+{
+    let mut sum = 0.0;
+    let mut i = 0;
+    while i < squares.len() {
+        if enough <= sum {
+            return sum;
+        }
+        sum += least_addend(limits, squares[i]);
+        i += 1;
+    }
+    sum
+}
+
+// The root mean square if it is less than `best`. Nearly always where it isn't, the least that it can
+// be is enough to tell, and that takes one root.
+pub fn rms_if_less(thresh: f64, squares: &[f64], count: u32, best: f64) -> Less
+    ensures { λ r. ⌜ r ≡ lessOf (rmsOf count (squaresIn thresh (map rootOf (now (squares .entry))))) best ⌝ }
+{
+    if count != 0 {
+        let n = count as f64;
+        let least = least_sum(limits_of(thresh), squares, best * best * n);
+        if best <= root::sqrt(least / n) {
+            return Less::NotBelow;
+        }
+    }
+    let rms = rms(thresh, squares, count);
+    if rms < best {
+        Less::Below(rms)
+    } else {
+        Less::NotBelow
+    }
+}
+
+// Writes the places of the squares with a root within the threshold to the front of `indices`,
+// ascending, and answers how many; nothing where it has not a place for each square, or there are
+// over 2,000.
+pub fn write_inliers(thresh: f64, squares: &[f64], indices: &mut [u32]) -> usize
+    ensures { λ r. ⌜ r ≡ indexCount thresh (map rootOf (now (squares .entry))) (now (indices .entry)) ⌝ }
+    ensures { λ _. ⌜ now (indices .exit) ≡ indexed thresh (map rootOf (now (squares .entry))) (now (indices .entry)) ⌝ }
+{
+    let n = squares.len();
     if indices.len() < n {
         return 0;
     }
@@ -169,7 +260,7 @@ pub fn write_inliers(h: Model, thresh: f64, marks: &[f64], indices: &mut [u32]) 
     let mut count = 0;
     let mut i = 0;
     while i < n {
-        let square = squared_residual(h, sheet::mark_at(marks, i));
+        let square = squares[i];
         let place = i;
         i += 1;
         if is_close(limits, square) {

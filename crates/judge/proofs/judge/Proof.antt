@@ -1,17 +1,13 @@
 -- `judge::judge` meets its contract. Assumes nothing.
 use borrow.Author.Needs.{needs}
-use Rattle.judge.proofs.Ways.{call-refused, case-refused, case-empty, case-fit, case-refit, passed-short}
+use lib.Seq.{length-take-le}
+use Rattle.judge.proofs.Left.{left-room, support-leaves, verdict-refused, verdict-empty, verdict-few, support-scored}
+use mathlib.Core.Path.{refl, sym, _∙_}
 use Rattle.judge.proofs.judge.Statement.{statement}
 use Rattle.judge.proofs.judge.Tie as tie
 
-check-call-requires : tie.Need-check-call-requires
-check-call-requires c κs = search needs
-
-returns : tie.Need-returns
-returns c = call-refused _ _ _ (c .before .check-call .ensures) (c .if1 .taken)
-
-read-trial-requires : tie.Need-read-trial-requires
-read-trial-requires c κs = search needs
+count-support-requires : tie.Need-count-support-requires
+count-support-requires c κs = search needs
 
 enum-known-k : tie.Need-enum-known-k
 enum-known-k c = search needs
@@ -19,44 +15,46 @@ enum-known-k c = search needs
 enum-told : tie.Need-enum-told
 enum-told c = search needs
 
-enum-known-fit : tie.Need-enum-known-fit
-enum-known-fit c = search needs
+enum-known-count : tie.Need-enum-known-count
+enum-known-count c = search needs
 
-judge-fit-requires : tie.Need-judge-fit-requires
-judge-fit-requires c κs = passed-short _ _ _ (c .before .before .before .before .before .check-call .ensures) (c .before .before .before .before .if1 .left)
+enum-known-s : tie.Need-enum-known-s
+enum-known-s c = search needs
 
-enum-known-pair : tie.Need-enum-known-pair
-enum-known-pair c = search needs
+array-share-prefix-squares : tie.Need-array-share-prefix-squares
+array-share-prefix-squares c = support-leaves _ _ _ (c .before .before .before .count-support .ensures .0) (c .before .s .given .1) _ (c .before .before .before .count-support .ensures .1) (left-room _ _ _ _ refl (c .before .before .before .count-support .ensures .1)) .fits
 
-judge-refit-requires : tie.Need-judge-refit-requires
-judge-refit-requires c κs = passed-short _ _ _ (c .before .before .before .before .before .check-call .ensures) (c .before .before .before .before .if1 .left)
+slice-aggregate-scored-with : tie.Need-slice-aggregate-scored-with
+slice-aggregate-scored-with c = sym (length-take-le _ _ (support-leaves _ _ _ (c .before .before .before .before .count-support .ensures .0) (c .before .before .s .given .1) _ (c .before .before .before .before .count-support .ensures .1) (left-room _ _ _ _ refl (c .before .before .before .before .count-support .ensures .1)) .fits))
+
+scored-with-requires : tie.Need-scored-with-requires
+scored-with-requires c κs = search needs
+
+returns : tie.Need-returns
+returns c = verdict-refused _ _ _ (c .before .before .before .count-support .ensures .0) (c .before .k .given .1)
 
 returns-2 : tie.Need-returns-2
-returns-2 c = case-refused _ _ _ (c .before .before .before .before .before .check-call .ensures) (c .before .before .before .before .if1 .left) (c .before .before .before .read-trial .ensures) (c .before .k .given .1)
+returns-2 c = verdict-empty _ _ _ (c .before .before .count-support .ensures .0) (c .enum-told .given .1)
 
 returns-3 : tie.Need-returns-3
-returns-3 c = case-empty _ _ _ (c .before .before .before .before .check-call .ensures) (c .before .before .before .if1 .left) (c .before .before .read-trial .ensures) (c .enum-told .given .1)
+returns-3 c = verdict-few _ _ _ (c .before .before .before .count-support .ensures .0) (c .before .count .given .1)
 
 returns-4 : tie.Need-returns-4
-returns-4 c = case-fit _ _ _ (c .before .before .before .before .before .before .check-call .ensures) (c .before .before .before .before .before .if1 .left) (c .before .before .before .before .read-trial .ensures) (c .before .before .fit .given .1) _ (c .judge-fit .ensures)
-
-returns-5 : tie.Need-returns-5
-returns-5 c = case-refit _ _ _ (c .before .before .before .before .before .before .check-call .ensures) (c .before .before .before .before .before .if1 .left) (c .before .before .before .before .read-trial .ensures) (c .before .before .pair .given .1) _ (c .judge-refit .ensures)
+returns-4 c = c .scored-with .ensures ∙ support-scored _ _ _ (c .before .before .before .before .before .count-support .ensures .0) (c .before .before .before .s .given .1) _ (c .before .before .before .before .before .count-support .ensures .1) (left-room _ _ _ _ refl (c .before .before .before .before .before .count-support .ensures .1))
 
 pub judge-spec : {M : Type 1} → statement M
 judge-spec =
     tie.close
     (tie.spec
-    check-call-requires
-    returns
-    read-trial-requires
+    count-support-requires
     enum-known-k
     enum-told
-    enum-known-fit
-    judge-fit-requires
-    enum-known-pair
-    judge-refit-requires
+    enum-known-count
+    enum-known-s
+    array-share-prefix-squares
+    slice-aggregate-scored-with
+    scored-with-requires
+    returns
     returns-2
     returns-3
-    returns-4
-    returns-5)
+    returns-4)

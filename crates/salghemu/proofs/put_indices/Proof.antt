@@ -1,9 +1,10 @@
 -- `salghemu::put_indices` meets its contract. Assumes nothing.
-use mathlib.Core.Path.{refl, sym}
-use mathlib.Core.List.{[]}
+use native.Mathlib.Omega.{arith}
 use borrow.Author.Needs.{needs}
-use lib.Seq.{length-take-le}
 use Rattle.salghemu.proofs.Giving.{inside, indices-laid}
+use lib.Seq.{length-take-le}
+use mathlib.Core.List.{[]}
+use mathlib.Core.Path.{refl, sym}
 use Rattle.salghemu.proofs.put_indices.Statement.{statement}
 use Rattle.salghemu.proofs.put_indices.Tie as tie
 
@@ -14,10 +15,10 @@ write-inliers-requires : tie.Need-write-inliers-requires
 write-inliers-requires c κs = search needs
 
 array-share-prefix-places : tie.Need-array-share-prefix-places
-array-share-prefix-places c = inside _ _ _ [] (c .before .before .before .before .before .pre .0) _ refl (c .before .write-inliers .ensures .0) (c .before .write-inliers .ensures .1)
+array-share-prefix-places c = inside _ _ _ [] (c .before .before .before .before .before .before .pre .0) _ refl (c .before .write-inliers .ensures .0) (c .before .write-inliers .ensures .1 .1)
 
 slice-aggregate-write-words : tie.Need-slice-aggregate-write-words
-slice-aggregate-write-words c = sym (length-take-le _ _ (inside _ _ _ [] (c .before .before .before .before .before .before .pre .0) _ refl (c .before .before .write-inliers .ensures .0) (c .before .before .write-inliers .ensures .1)))
+slice-aggregate-write-words c = sym (length-take-le _ _ (inside _ _ _ [] (c .before .before .before .before .before .before .before .pre .0) _ refl (c .before .before .write-inliers .ensures .0) (c .before .before .write-inliers .ensures .1 .1)))
 
 write-words-requires : tie.Need-write-words-requires
 write-words-requires c κs = search needs
@@ -26,7 +27,7 @@ same-length : tie.Need-same-length
 same-length c = search needs
 
 returns : tie.Need-returns
-returns c = indices-laid _ _ _ _ (c .before .before .before .before .before .before .before .before .before .before .pre .0) _ refl (c .before .before .before .before .before .before .write-inliers .ensures .0) (c .before .before .before .before .before .before .write-inliers .ensures .1) (c .before .before .before .before .before .before .before .before .before .before .pre .1) (c .before .before .write-words .ensures)
+returns c = indices-laid _ _ _ _ (c .before .before .before .before .before .before .before .before .before .before .before .pre .0) _ refl (c .before .before .before .before .before .before .write-inliers .ensures .0) (c .before .before .before .before .before .before .write-inliers .ensures .1 .1) (c .before .before .before .before .before .before .before .before .before .before .before .pre .1) (c .before .before .write-words .ensures)
 
 pub put-indices-spec : {M : Type 1} → statement M
 put-indices-spec =

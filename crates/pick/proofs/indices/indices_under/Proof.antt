@@ -17,7 +17,7 @@ same-length : tie.Need-same-length
 same-length c = search needs
 
 returns-2 : tie.Need-returns-2
-returns-2 c = under-written _ _ _ _ _ (c .before .before .before .before .before .before .before .check-order .ensures) (c .before .before .before .before .before .before .if1 .left) (c .before .before .write-inliers .ensures .0) (c .before .before .write-inliers .ensures .1)
+returns-2 c = under-written _ _ _ _ _ (c .before .before .before .before .before .before .before .before .check-order .ensures) (c .before .before .before .before .before .before .before .if1 .left) (c .before .before .write-inliers .ensures .0) (c .before .before .write-inliers .ensures .1 .1)
 
 pub indices-under-spec : {M : Type 1} → statement M
 indices-under-spec =

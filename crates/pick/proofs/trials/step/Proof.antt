@@ -1,7 +1,8 @@
 -- `pick::trials::step` meets its contract. Assumes nothing.
 use mathlib.Core.Path.{sym, _∙_}
 use borrow.Author.Needs.{needs}
-use Rattle.pick.specs.Run.{viewState}
+use Rattle.book.specs.Calls.{isClosed}
+use Rattle.pick.specs.Run.{bookOf, viewState}
 use Rattle.pick.specs.Trial.{stepAnswer}
 use Rattle.pick.proofs.Booking.{late, in-time}
 use Rattle.pick.proofs.trials.step.Statement.{statement}
@@ -21,6 +22,7 @@ judge-requires : tie.Need-judge-requires
 judge-requires c κs = search needs
 
 booked-requires : tie.Need-booked-requires
+unfolding isClosed bookOf
 booked-requires c κs = sym (c .before .before .before .is-closed .ensures) ∙ c .before .before .if1 .left
 
 returns-2 : tie.Need-returns-2

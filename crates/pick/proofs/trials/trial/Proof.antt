@@ -1,7 +1,8 @@
 -- `pick::trials::trial` meets its contract. Assumes nothing.
 use mathlib.Core.Path.{sym, _∙_}
 use borrow.Author.Needs.{needs}
-use Rattle.pick.specs.Run.{viewState}
+use Rattle.book.specs.Calls.{isClosed}
+use Rattle.pick.specs.Run.{bookOf, viewState}
 use Rattle.pick.specs.Trial.{trialAnswer}
 use Rattle.pick.proofs.Booking.{late, early-refused, in-time}
 use Rattle.pick.proofs.Order.{other-run, bad-marks, same-judged}
@@ -44,6 +45,7 @@ judge-requires : tie.Need-judge-requires
 judge-requires c κs = search needs
 
 booked-requires : tie.Need-booked-requires
+unfolding isClosed bookOf
 booked-requires c κs = sym (c .before .before .before .before .before .before .before .before .is-closed .ensures) ∙ c .before .before .before .before .before .before .before .if1 .left
 
 returns-4 : tie.Need-returns-4

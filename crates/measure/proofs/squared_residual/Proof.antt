@@ -1,0 +1,42 @@
+-- `measure::squared_residual` meets its contract. Assumes nothing.
+use borrow.Author.Needs.{needs}
+use lib.Ieee.{nanBits}
+use Rattle.measure.specs.Distances.{squaredOf}
+use Rattle.measure.proofs.squared_residual.Statement.{statement}
+use Rattle.measure.proofs.squared_residual.Tie as tie
+
+point-of-requires : tie.Need-point-of-requires
+point-of-requires c κs = search needs
+
+project-requires : tie.Need-project-requires
+project-requires c κs = search needs
+
+point-of-requires-2 : tie.Need-point-of-requires-2
+point-of-requires-2 c κs = search needs
+
+squared-apart-requires : tie.Need-squared-apart-requires
+squared-apart-requires c κs = search needs
+
+float-from-bits-result : tie.Need-float-from-bits-result
+unfolding nanBits
+float-from-bits-result c = tt
+
+returns : tie.Need-returns
+unfolding squaredOf
+returns c = rw (← c .before .before .before .before .before .point-of .ensures, ← c .before .before .before .before .project .ensures, ← c .before .before .before .point-of2 .ensures, c .if1 .taken) (c .before .before .squared-apart .ensures)
+
+returns-2 : tie.Need-returns-2
+unfolding squaredOf
+returns-2 c = rw (← c .before .before .before .before .before .point-of .ensures, ← c .before .before .before .before .project .ensures, c .if1 .left)
+
+pub squared-residual-spec : {M : Type 1} → statement M
+squared-residual-spec =
+    tie.close
+    (tie.spec
+    point-of-requires
+    project-requires
+    point-of-requires-2
+    squared-apart-requires
+    float-from-bits-result
+    returns
+    returns-2)
