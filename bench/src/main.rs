@@ -1,9 +1,12 @@
 //! Times the proved code beside the Rust's, in one run: the medians of several
 //! rounds.
 
+mod cases;
 mod root;
+mod roots;
 mod run;
 mod sheet;
+mod walk;
 
 use std::time::Instant;
 
@@ -23,10 +26,16 @@ fn median(mut times: Vec<f64>) -> f64 {
     times[times.len() / 2]
 }
 
+/// Everything; or, given the name of a row of the whole run, that run once.
 fn main() {
+    if let Some(title) = std::env::args().nth(1) {
+        return run::once(&title);
+    }
     root::run();
     println!();
     sheet::run();
+    println!();
+    walk::run();
     println!();
     run::run();
 }

@@ -1,170 +1,127 @@
-//! The whole run over 2,000 marks and 1,000 trials, beside the original
-//! `ransac_fit` over the same recorded trials.
-//!
-//! Both read all 1,000 trials, by the same options and the Rust's own stop
-//! list: a good candidate agrees with 800 of the 2,000 marks, and at the
-//! largest confidence below 1 that asks for more than 1,000 trials. (A
-//! candidate with more marks would end the run early.) A poor candidate
-//! agrees with too few marks to be scored.
+//! The whole run, beside the original `ransac_fit` over the same recorded
+//! trials, which both read to the end.
 //!
 //! The proved side decodes its bytes within the time, and the Rust's copies
 //! the list of trials into a queue.
 
+use crate::cases::{MARKS, TRIALS, at_the_threshold, each_wins, other_counts, same_counts};
+use crate::roots::{Roots, follow};
 use crate::{ROUNDS, median, nanoseconds};
-use oracle::book::{Call, Judged, judge, trial_record};
-use oracle::book::{Options, WINNER_BYTES};
-use oracle::cases::{Random, step};
-use oracle::pick_cases::Case;
-use oracle::{Model, Trial, ransac_fit, stop_list};
+use oracle::book::WINNER_BYTES;
+use oracle::pick_cases::{Bytes, Case};
+use oracle::ransac_fit;
 use std::hint::black_box;
 
-const MARKS: usize = 2000;
-const TRIALS: usize = 1000;
-/// The marks that a good candidate agrees with.
-const GOOD: usize = 800;
-
-/// What a sheet's marks go through to become pixels.
-const TRUE: Model = [1.02, 0.03, 15.0, -0.02, 0.98, -7.0, 1e-5, -2e-5, 1.0];
-
-fn marks(random: &mut Random) -> Vec<f64> {
-    let h = TRUE;
-    let mut list = Vec::new();
-    for i in 0..MARKS {
-        let [x, y] = [0; 2].map(|_| 1000.0 * random.unit());
-        let s = (h[6] * x + h[7] * y) + h[8];
-        // The good ones are spread over the list; the others are at least 50
-        // pixels off, in u and in v.
-        let away = |random: &mut Random| match i * 1103 % MARKS < GOOD {
-            true => 0.5 * (random.unit() - 0.5),
-            false => random.sign() * (50.0 + 400.0 * random.unit()),
-        };
-        let u = ((h[0] * x + h[1] * y) + h[2]) / s + away(random);
-        let v = ((h[3] * x + h[4] * y) + h[5]) / s + away(random);
-        list.extend([x, y, u, v]);
-    }
-    list
+/// The whole run once, with what it gives.
+fn proved(bytes: &Bytes, winner: &mut [u8], indices: &mut [u8]) -> u32 {
+    let inputs = [&bytes.options, &bytes.marks, &bytes.stops, &bytes.trials];
+    proved::pick::salghemu_run(inputs.map(Vec::as_slice), winner, indices)
 }
 
-/// A candidate within a fraction of a pixel, or one that is far off.
-fn candidate(random: &mut Random, good: bool) -> Model {
-    let mut h = TRUE;
-    let off = if good { 0.2 } else { 3000.0 };
-    h[2] += off * (0.5 + random.unit());
-    h[5] += off * (0.5 + random.unit());
-    h
-}
-
-/// A run in which every `every`-th trial is good.
-fn case(every: usize, refit: bool) -> Case {
-    let random = &mut Random::new(70);
-    let options = Options {
-        thresh: 2.0,
-        confidence: step(1.0, -1),
-        max_iters: TRIALS as u32,
-        min_inliers: 12,
-        refit,
-    };
-    let marks = marks(random);
-    let trials = (0..TRIALS).map(|i| {
-        let good = i.is_multiple_of(every);
-        Trial {
-            fit: Some(candidate(random, good)),
-            refit: refit.then(|| candidate(random, good)),
-        }
-    });
-    Case {
-        options,
-        trials: trials.collect(),
-        marks,
-        stops: stop_list(options.confidence, MARKS),
-    }
-}
-
-/// The roots that each side takes, worked out from the counts.
-///
-/// A model is counted for each fit, and for the refit of each trial whose fit
-/// has marks enough. The Rust takes a root for each mark of each model
-/// counted. The proved side walks over the marks for each model counted, for
-/// the rms of each model that stands and for the winner's indices. A walk
-/// takes two roots, which show where the squares around the threshold lie,
-/// and that for an rms one more for each mark within it (no mark here is so
-/// near the threshold as to need one besides). Both take one for the rms of
-/// each trial that is scored.
-fn roots(case: &Case) -> [usize; 2] {
-    let (mut walks, mut roots) = (1, [0, 0]);
-    for trial in &case.trials {
-        let call = Call {
-            record: &trial_record(trial),
-            marks: &case.marks,
-            stops: &case.stops,
-        };
-        let mut models = 1;
-        match judge(&case.options, MARKS as u64, &call) {
-            Judged::Scored(scored) => {
-                models += usize::from(case.options.refit && trial.refit.is_some());
-                walks += 1;
-                roots[0] += scored.count as usize + 1;
-                roots[1] += 1;
-            }
-            Judged::Few(_) => {}
-            other => panic!("neither good nor poor: {other:?}"),
-        }
-        walks += models;
-        roots[1] += MARKS * models;
-    }
-    roots[0] += 2 * walks;
-    roots
-}
-
-/// Both sides read every trial and agree on the winner.
-fn agree(case: &Case, winner: &[u8]) {
+/// Both sides read every trial and agree on the winner and its indices.
+fn agree(case: &Case, roots: &Roots) {
+    let (mut winner, mut indices) = ([0; WINNER_BYTES], vec![0; 4 * case.n()]);
+    assert_eq!(proved(&case.bytes(), &mut winner, &mut indices), 0);
     let theirs = ransac_fit(case.mark_list(), &case.ransac_options(), &case.trials);
     assert_eq!(theirs.read, TRIALS);
     let best = theirs.winner.expect("a winner");
-    assert_eq!(best.inliers.len(), GOOD);
-    let mut expected = (GOOD as u32).to_le_bytes().to_vec();
+    let count = best.inliers.len() as u32;
+    let mut expected = count.to_le_bytes().to_vec();
     expected.extend((best.number as u32).to_le_bytes());
     expected.extend(best.rms.to_le_bytes());
     expected.extend(best.model.iter().flat_map(|h| h.to_le_bytes()));
-    assert_eq!(winner, expected);
+    assert_eq!(winner.as_slice(), expected);
+    let list = best.inliers.iter();
+    let list: Vec<u8> = list.flat_map(|&i| (i as u32).to_le_bytes()).collect();
+    assert_eq!(indices[..list.len()], list);
+    assert_eq!(roots.best, Some((count, best.rms)));
 }
 
-/// Times the two in turn, and prints them with their ratio and their roots.
-fn compare(title: &str, case: &Case) {
-    let bytes = case.bytes();
-    let inputs = [&bytes.options, &bytes.marks, &bytes.stops, &bytes.trials];
-    let inputs = inputs.map(Vec::as_slice);
-    let (mut winner, mut indices) = ([0; WINNER_BYTES], [0; 4 * MARKS]);
-    let mut proved = || {
-        let (winner, indices) = black_box((&mut winner, &mut indices));
-        proved::pick::salghemu_run(black_box(inputs), winner, indices)
-    };
-    assert_eq!(proved(), 0);
-    let options = case.ransac_options();
+/// Nanoseconds a run, the two in turn.
+fn times(case: &Case) -> [f64; 2] {
+    let (mut winner, mut indices) = ([0; WINNER_BYTES], vec![0; 4 * case.n()]);
+    let (bytes, options) = (case.bytes(), case.ransac_options());
+    let passes = (MARKS / case.n()).min(20);
     let mut times = [const { Vec::new() }; 2];
     for _ in 0..ROUNDS {
-        times[0].push(nanoseconds(1, || {
-            black_box(proved());
+        times[0].push(nanoseconds(passes, || {
+            black_box(proved(black_box(&bytes), &mut winner, &mut indices));
         }));
-        times[1].push(nanoseconds(3, || {
+        times[1].push(nanoseconds(passes, || {
             let (marks, trials) = black_box((case.mark_list(), &case.trials));
             black_box(ransac_fit(marks, &options, trials));
         }));
     }
-    agree(case, &winner);
-    let ([p, o], [ours, theirs]) = (times.map(median), roots(case));
+    times.map(median)
+}
+
+/// The runs of 2,000 marks, by name.
+fn rows() -> [(&'static str, Case); 6] {
+    [
+        ("a tenth good", same_counts(MARKS, 10, false)),
+        ("all good", same_counts(MARKS, 1, false)),
+        ("all good, refits", same_counts(MARKS, 1, true)),
+        ("counts differ", other_counts()),
+        ("each wins", each_wins()),
+        ("at the threshold", at_the_threshold()),
+    ]
+}
+
+fn row(title: &str, case: &Case) {
+    let roots = follow(case);
+    agree(case, &roots);
+    let [p, o] = times(case);
     println!(
-        "{title:<17} {:>9.2} {:>8.2} {:>12.2} {ours:>13} {theirs:>13}",
+        "{title:<17} {:>9.2} {:>8.2} {:>12.2} {:>13} {:>11} {:>5} {:>8}",
         p / 1e6,
         o / 1e6,
+        p / o,
+        roots.proved,
+        roots.rust,
+        roots.won,
+        roots.told
+    );
+}
+
+fn size(n: usize, every: usize) {
+    let case = same_counts(n, every, false);
+    agree(&case, &follow(&case));
+    let [p, o] = times(&case).map(|time| time / TRIALS as f64);
+    let title = if every == 1 { "all" } else { "a tenth" };
+    println!(
+        "{n:<6} {title:<8} {:>16.3} {:>14.3} {:>21.2} {:>19.2} {:>12.2}",
+        p / 1e3,
+        o / 1e3,
+        p / n as f64,
+        o / n as f64,
         p / o
     );
 }
 
 pub fn run() {
     println!("whole run of {MARKS} marks, {TRIALS} trials");
-    println!("                  proved ms  Rust ms  proved/Rust  proved roots    Rust roots");
-    compare("a tenth good", &case(10, false));
-    compare("all good", &case(1, false));
-    compare("all good, refits", &case(1, true));
+    println!(
+        "                  proved ms  Rust ms  proved/Rust  proved roots  Rust roots   won     told"
+    );
+    for (title, case) in rows() {
+        row(title, &case);
+    }
+    println!();
+    println!("whole run of {TRIALS} trials by the number of marks");
+    println!(
+        "marks  good     proved us/trial  Rust us/trial  proved ns/mark,trial  Rust ns/mark,trial  proved/Rust"
+    );
+    for n in [4, 20, 100, 500, 2000] {
+        size(n, 10);
+        size(n, 1);
+    }
+}
+
+/// One run of one row and nothing else, for a count of the root's calls.
+pub fn once(title: &str) {
+    let row = rows().into_iter().find(|row| row.0 == title);
+    let (_, case) = row.expect("the name of a row");
+    let (mut winner, mut indices) = ([0; WINNER_BYTES], vec![0; 4 * case.n()]);
+    assert_eq!(proved(&case.bytes(), &mut winner, &mut indices), 0);
+    println!("{title}: {} roots by the rules", follow(&case).proved);
 }

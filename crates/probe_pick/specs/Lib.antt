@@ -1,2 +1,3 @@
 pub mod Words
 pub mod Calls
+pub mod Scoring

@@ -1,5 +1,7 @@
 //! What the comparison tests share.
 
+pub mod close;
+
 /// How many random cases: SALGHEMU_CASES, or the test's own number, times
 /// SALGHEMU_TIMES.
 pub fn cases(usual: usize) -> usize {

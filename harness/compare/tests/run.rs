@@ -1,9 +1,11 @@
 //! The proved whole run: against `ransac_fit` over its domain, and against the
 //! book for refusals, stop lists of any numbers and every byte that is lent.
 
+use compare::close::Close;
 use compare::{Tally, junk_bytes};
 use oracle::book::{TRIAL_BYTES, WINNER_BYTES};
 use oracle::cases::Random;
+use oracle::close_cases::close;
 use oracle::example;
 use oracle::pick_cases::{Bytes, Case, any_stops, damaged, reference, rooms, runs};
 use oracle::whole;
@@ -137,6 +139,30 @@ fn the_whole_run_gives_what_ransac_fit_gives() {
     tally.show("whole run, as ransac_fit");
     if count >= LONG {
         tally.met(&[0, 11]);
+    }
+}
+
+// Where the rms decides.
+
+/// Candidates that differ in the last places or not at all, in an order in
+/// which each wins, none does, or some do.
+#[test]
+fn the_rms_decides() {
+    let random = &mut Random::new(35);
+    let mut tally = Tally::default();
+    let mut met = Close::default();
+    let count = runs(8_000, 100);
+    for i in 0..count {
+        let case = close(random, i);
+        let rooms = [WINNER_BYTES, 4 * case.n()];
+        compare_with_rust(&case, rooms, &mut tally);
+        met.run(&case);
+    }
+    tally.show("whole run, close candidates");
+    println!("close candidates: {met:?}");
+    if count >= LONG {
+        tally.met(&[0]);
+        met.met();
     }
 }
 

@@ -4,6 +4,7 @@
 use compare::{Tally, junk_words};
 use oracle::book::{Book, Call, Options, State, Words, trial_record};
 use oracle::cases::{NANS, Random};
+use oracle::close_cases::close;
 use oracle::example::{BEHIND, I, SQUARE, T};
 use oracle::pick_cases::{
     Case, any_stops, damage_marks, damage_options, damage_trial, hand_made, other_length,
@@ -316,6 +317,17 @@ fn trials_give_what_ransac_fit_gives() {
     if count >= LONG {
         assert!(outcomes.0.iter().all(|&times| times > 0) && outcomes.1 > 0);
     }
+}
+
+/// Close candidates, where the rms decides and is given for held trials too.
+#[test]
+fn trials_of_close_candidates() {
+    let random = &mut Random::new(48);
+    let mut outcomes = Outcomes::default();
+    for i in 0..runs(4_000, 100) {
+        replayed(&close(random, i), &mut outcomes);
+    }
+    println!("trials, close candidates: {outcomes:?}");
 }
 
 #[test]

@@ -4,7 +4,10 @@
 /// The whole number that a variable of the environment is set to.
 fn set(name: &str) -> Option<usize> {
     let text = std::env::var(name).ok()?;
-    Some(text.parse().unwrap_or_else(|_| panic!("{name} is a whole number")))
+    Some(
+        text.parse()
+            .unwrap_or_else(|_| panic!("{name} is a whole number")),
+    )
 }
 
 /// How many random cases SALGHEMU_CASES asks for, where it is set.

@@ -6,12 +6,15 @@
 pub mod answers;
 pub mod book;
 pub mod cases;
+pub mod close_cases;
 pub mod entries;
 pub mod example;
 mod numbers;
 mod pick;
 pub mod pick_cases;
 pub mod records;
+pub mod scoring;
+pub mod scoring_cases;
 mod sheet;
 pub mod sheet_cases;
 pub mod sheets;

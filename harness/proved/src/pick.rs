@@ -70,7 +70,7 @@ mod c {
 pub const NO_WORDS: u32 = u32::MAX;
 
 /// A list's pointer; an empty one goes over as NULL, as a C caller's may.
-fn of<T>(list: &[T]) -> *const T {
+pub(crate) fn of<T>(list: &[T]) -> *const T {
     if list.is_empty() {
         std::ptr::null()
     } else {
@@ -79,7 +79,7 @@ fn of<T>(list: &[T]) -> *const T {
 }
 
 /// The same for a list that is lent.
-fn lent<T>(list: &mut [T]) -> *mut T {
+pub(crate) fn lent<T>(list: &mut [T]) -> *mut T {
     if list.is_empty() {
         std::ptr::null_mut()
     } else {
