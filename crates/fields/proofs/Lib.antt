@@ -1,3 +1,4 @@
 pub mod Reading
 pub mod Writing
 pub mod Back
+pub mod Packing

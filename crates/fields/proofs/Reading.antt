@@ -52,7 +52,7 @@ module _ (l : List ℕ) (p : ℕ) (inside : p + 4 ≤ length l) where
   four =
       rw (one-more 3 l p 0 (omega arith), one-more 2 l p 1 (omega arith), one-more 1 l p 2 (omega arith), one-more 0 l p 3 (omega arith))
 
-word-spelled : (l : List ℕ) (i : ℕ) → i < length l / 4 → wordAt l i ≡ littleEndian (take 4 (drop (4 * i) l))
+pub word-spelled : (l : List ℕ) (i : ℕ) → i < length l / 4 → wordAt l i ≡ littleEndian (take 4 (drop (4 * i) l))
 unfolding wordAt wordsOf
 word-spelled l i h = field-at 4 l i h
 
@@ -91,10 +91,17 @@ module _ (l : List ℕ) (i : ℕ) (inside : i < length l / 8) where
       ∙ spelled-append (take 4 (drop (8 * i) l)) (take 4 (drop 4 (drop (8 * i) l)))
       ∙ rw (four-wide, drop-drop 4 (8 * i) l, low, high)
 
-pub long-read : (l : List ℕ) (i : ℕ) → i < length l / 8 → {a b : ℕ} → a ≡ wordAt l (2 * i) → b ≡ wordAt l (2 * i + 1) → a + b * 0x1_0000_0000 ≡ longAt l i
+pub longs-count : (l : List ℕ) → length (longsOf l) ≡ length l / 8
+unfolding longsOf
+longs-count l = fields-count 8 l
+
+pub long-spelled : (l : List ℕ) (i : ℕ) → i < length l / 8 → longAt l i ≡ littleEndian (take 8 (drop (8 * i) l))
 unfolding longAt longsOf
+long-spelled l i h = field-at 8 l i h
+
+pub long-read : (l : List ℕ) (i : ℕ) → i < length l / 8 → {a b : ℕ} → a ≡ wordAt l (2 * i) → b ≡ wordAt l (2 * i + 1) → a + b * 0x1_0000_0000 ≡ longAt l i
 long-read l i h {a} {b} p q =
-    let e = field-at 8 l i h ∙ eight l i h in
+    let e = long-spelled l i h ∙ eight l i h in
     omega (arith, e, p, q)
 
 pub no-long : (l : List ℕ) (i : ℕ) → length l / 8 ≤ i → 0 ≡ longAt l i

@@ -2,7 +2,7 @@
 use mathlib.Core.Bool.{Bool}
 use mathlib.Core.List.{List, [], _∷_, map}
 use Prim.Native.Nat.{ℕ, zero, suc, _+_, _*_, _/_, _%_}
-use lib.Dec.{eqb}
+use lib.Dec.{ltb, eqb}
 use lib.ListN.{getD, take, drop}
 use lib.Ieee.{Float, binary64, ofBits, toBits}
 use Rattle.rule.specs.Lists.{every, partsOf}
@@ -45,6 +45,10 @@ byteAt l i = getD l i 0
 -- every one of the bytes from `from` up to, not including, `to` is 0, as far as there are such
 unfoldable pub zeroBytes : (from to : ℕ) → List ℕ → Bool
 zeroBytes from to l = every (λ b. eqb b 0) (drop from (take to l))
+
+-- each number is a byte, as those of every file are
+unfoldable pub allBytes : List ℕ → Bool
+allBytes l = every (λ b. ltb b 256) l
 
 -- ---- writing
 

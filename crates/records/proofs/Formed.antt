@@ -1,28 +1,35 @@
 -- Options and trials, one law for each way out of their readers. Assumes nothing.
-use mathlib.Core.Path.{_≡_, ap, _∙_}
-use mathlib.Core.Logic.{⊎-elim}
-use mathlib.Core.Bool.{Bool, true, false, not, _||_}
-use mathlib.Core.List.{List, [], _∷_}
+use mathlib.Core.Path.{_≡_, sym, ap, _∙_}
+use mathlib.Core.Bool.{Bool, true, false, not, _&&_, _||_}
+use mathlib.Core.List.{List, [], _∷_, map}
 use Prim.Native.Nat.{ℕ, zero, suc, _+_, _*_, _≤_, _<_}
+use native.Mathlib.Nat.{add-zero}
 use native.Mathlib.Omega.{arith}
 use borrow.Author.Tests.{not-true, not-false, lt-ltb, le-ltb, le-leb, lt-leb, eq-eqb, ne-eqb}
-use lib.Dec.{eqb}
-use lib.ListN.{length}
-use lib.Ieee.{Float, lt}
+use lib.Dec.{eqb, eqb→eq}
+use lib.ListN.{length, getD, take, drop, length-drop}
+use lib.Seq.{length-take-le, getD-take, getD-drop}
+use lib.Ieee.{Float, binary64, ofBits, lt}
+use lib.Ieee.Fits.{and-l}
 use Rattle.rule.specs.Refusal.{RECORD, THRESH, CONFIDENCE, ITERS}
 use Rattle.rule.specs.Answer.{refused, gives}
 use Rattle.rule.specs.Order.{firstFailed, decided}
-use Rattle.rule.proofs.Tests.{le-or-gt, and-false, failed, held}
+use Rattle.rule.proofs.Lists.{placesAt, one-by-one}
+use Rattle.rule.proofs.Tests.{and-false, is-test, failed, held}
 use Rattle.rule.proofs.Order.{stops, passes}
 use Rattle.numbers.specs.Constants.{zero′, one}
 use Rattle.numbers.specs.Finite.{isFinite, allFinite}
 use Rattle.sheet.specs.Distance.{modelNumbers}
 use Rattle.sheet.specs.declared.model.Model.{Model}
 use Rattle.book.specs.Score.{unfitted, fitted, refitted}
-use Rattle.fields.specs.Fields.{byteAt, wordAt, doubleAt, zeroBytes}
-use Rattle.records.specs.Options.{optionsFormed, optionsRecord, optionsOf, optionsAnswer, thresh, confidence, iters, optionsTests}
-use Rattle.records.specs.Trial.{modelAt, marked, numbersFormed, trialFormed, trialRecord, trialOf, trialAnswer}
+use Rattle.fields.specs.Fields.{longsOf, byteAt, wordAt, longAt, doubleAt, zeroBytes}
+use Rattle.fields.specs.Packing.{sizeOf, unpacked}
+use Rattle.fields.proofs.Reading.{longs-count}
+use Rattle.fields.proofs.Packing.{zero-longs}
+use Rattle.records.specs.Options.{optionsLayout, optionsSound, optionsFrom, optionsFormed, optionsRecord, optionsOf, optionsAnswer, thresh, confidence, iters, optionsTests}
+use Rattle.records.specs.Trial.{trialLayout, modelFrom, marked, marksFormed, numbersFormed, trialSound, trialFrom, trialFormed, trialRecord, trialOf, trialAnswer}
 use Rattle.records.specs.declared.options.RansacOptions.{RansacOptions}
+use Rattle.records.proofs.Placed.{options-size, thresh-placed, confidence-placed, iters-placed, inliers-placed, refit-placed, filler-placed, trial-size, fit-placed, refit-mark-placed, trial-filler-placed, fit-bits-placed, refit-bits-placed}
 
 -- ---- an options record
 
@@ -34,26 +41,36 @@ module _ (l : List ℕ) where
 
   pub options-length : (length l ≡ 32 → ⊥) → refused RECORD ≡ optionsAnswer l
   unfolding optionsFormed
-  options-length h = no-options (rw (ne-eqb (length l) 32 h))
+  options-length h = no-options (rw (options-size, ne-eqb (length l) 32 h))
 
-  pub options-filler : {zeros : Bool} → zeros ≡ zeroBytes 25 32 l → not zeros ≡ true → refused RECORD ≡ optionsAnswer l
-  unfolding optionsFormed
-  options-filler e h = no-options (simp (failed e h, and-false))
-
-  module _ {mark : ℕ} (at : mark ≡ byteAt l 24) where
-    pub options-mark : 1 < mark → refused RECORD ≡ optionsAnswer l
+  module _ (size : length l ≡ 32) where
+    -- by the fields alone
+    by-fields : optionsFormed l ≡ optionsSound (unpacked optionsLayout l)
     unfolding optionsFormed
-    options-mark h = no-options (rw (← at, lt-leb mark 1 h) (and-false (eqb (length l) 32)))
+    by-fields = rw (options-size, eq-eqb (length l) 32 size)
 
-    module _ (size : length l ≡ 32) (small : mark ≤ 1) {zeros : Bool} (filler : zeros ≡ zeroBytes 25 32 l) (good : not zeros ≡ false) where
-      options-formed : optionsFormed l ≡ true
-      unfolding optionsFormed
-      options-formed = rw (eq-eqb (length l) 32 size, ← at, le-leb mark 1 small) (held filler good)
+    pub options-filler : {zeros : Bool} → zeros ≡ zeroBytes 25 32 l → not zeros ≡ true → refused RECORD ≡ optionsAnswer l
+    unfolding optionsSound
+    options-filler e h = no-options (by-fields ∙ rw (← filler-placed l size, failed e h, and-false))
 
-      pub options-read : {a b : Float} {j k : ℕ} → a ≡ doubleAt l 0 → b ≡ doubleAt l 1 → j ≡ wordAt l 4 → k ≡ wordAt l 5
-          → gives (record { thresh = a; confidence = b; «max_iters» = j; «min_inliers» = k; refit = eqb mark 1 }) ≡ optionsAnswer l
-      unfolding optionsAnswer decided firstFailed optionsRecord optionsOf
-      options-read p q r s = rw (options-formed, p, q, r, s, at)
+    module _ {mark : ℕ} (at : mark ≡ byteAt l 24) where
+      here : mark ≡ getD (unpacked optionsLayout l) 4 0
+      here = at ∙ refit-placed l size
+
+      pub options-mark : 1 < mark → refused RECORD ≡ optionsAnswer l
+      unfolding optionsSound
+      options-mark h = no-options (by-fields ∙ rw (← here, lt-leb mark 1 h))
+
+      module _ (small : mark ≤ 1) {zeros : Bool} (filler : zeros ≡ zeroBytes 25 32 l) (good : not zeros ≡ false) where
+        options-formed : optionsFormed l ≡ true
+        unfolding optionsSound
+        options-formed = by-fields ∙ rw (← here, le-leb mark 1 small, ← filler-placed l size) (held filler good)
+
+        pub options-read : {a b : Float} {j k : ℕ} → a ≡ doubleAt l 0 → b ≡ doubleAt l 1 → j ≡ wordAt l 4 → k ≡ wordAt l 5
+            → gives (record { thresh = a; confidence = b; «max_iters» = j; «min_inliers» = k; refit = eqb mark 1 }) ≡ optionsAnswer l
+        unfolding optionsAnswer decided firstFailed optionsRecord optionsOf optionsFrom
+        options-read p q r s =
+            rw (options-formed, p, q, r, s, thresh-placed l size, confidence-placed l size, iters-placed l size, inliers-placed l size, here)
 
 -- ---- the tests of the options
 
@@ -102,15 +119,37 @@ module _ (o : RansacOptions) where
 
 -- ---- a trial's record, part by part
 
--- a model's numbers, marked or not
-module _ (l : List ℕ) (first : ℕ) {mark : Bool} where
-  pub model-finite : mark ≡ true → {h : Model} {r : Bool} → h ≡ modelAt l first → r ≡ allFinite (modelNumbers h) → r ≡ numbersFormed l mark first
-  unfolding numbersFormed
-  model-finite t e f = rw (t, ← e) f
+-- the nine numbers from the double at place i on
+module _ (l : List ℕ) (i : ℕ) where
+  number-read : (k : ℕ) → k < 9 → doubleAt l (i + k) ≡ ofBits binary64 (getD (take 9 (drop i (longsOf l))) k 0)
+  unfolding doubleAt longAt
+  number-read k h = ap (ofBits binary64) (sym (getD-take 9 (drop i (longsOf l)) k 0 h ∙ getD-drop i (longsOf l) k 0))
 
-  pub model-empty : mark ≡ false → {r : Bool} → r ≡ zeroBytes (8 * first) (8 * first + 72) l → r ≡ numbersFormed l mark first
+  pub model-read : {x0 x1 x2 x3 x4 x5 x6 x7 x8 : Float} → x0 ≡ doubleAt l i → x1 ≡ doubleAt l (i + 1) → x2 ≡ doubleAt l (i + 2) → x3 ≡ doubleAt l (i + 3) → x4 ≡ doubleAt l (i + 4) → x5 ≡ doubleAt l (i + 5) → x6 ≡ doubleAt l (i + 6) → x7 ≡ doubleAt l (i + 7) → x8 ≡ doubleAt l (i + 8)
+      → record { h0 = x0; h1 = x1; h2 = x2; h3 = x3; h4 = x4; h5 = x5; h6 = x6; h7 = x7; h8 = x8 } ≡ modelFrom (take 9 (drop i (longsOf l)))
+  unfolding modelFrom
+  model-read e0 e1 e2 e3 e4 e5 e6 e7 e8 =
+      rw (e0 ∙ ap (doubleAt l) (sym (add-zero i)) ∙ number-read 0 (omega arith), e1 ∙ number-read 1 (omega arith), e2 ∙ number-read 2 (omega arith), e3 ∙ number-read 3 (omega arith), e4 ∙ number-read 4 (omega arith), e5 ∙ number-read 5 (omega arith), e6 ∙ number-read 6 (omega arith), e7 ∙ number-read 7 (omega arith), e8 ∙ number-read 8 (omega arith))
+
+-- a model's numbers, marked or not
+nine : (bits : List ℕ) → length bits ≡ 9 → modelNumbers (modelFrom bits) ≡ map (ofBits binary64) bits
+unfolding modelNumbers modelFrom placesAt
+nine bits size = ap (map (ofBits binary64)) (sym (one-by-one 9 0 bits 0 size))
+
+module _ (l : List ℕ) (first : ℕ) (inside : 8 * first + 72 ≤ length l) where
+  abbrev bits : List ℕ
+  bits = take 9 (drop first (longsOf l))
+
+  nine-wide : length bits ≡ 9
+  nine-wide = length-take-le 9 (drop first (longsOf l)) (rw (length-drop first (longsOf l), longs-count l) (omega (arith, inside)))
+
+  pub model-finite : {mark : Bool} → mark ≡ true → {h : Model} {r : Bool} → h ≡ modelFrom bits → r ≡ allFinite (modelNumbers h) → r ≡ numbersFormed mark bits
   unfolding numbersFormed
-  model-empty t f = rw t f
+  model-finite t e f = rw t (f ∙ ap (λ m. allFinite (modelNumbers m)) e ∙ ap allFinite (nine bits nine-wide))
+
+  pub model-empty : {mark : Bool} → mark ≡ false → {r : Bool} → r ≡ zeroBytes (8 * first) (8 * first + 72) l → r ≡ numbersFormed mark bits
+  unfolding numbersFormed
+  model-empty t f = rw t (f ∙ zero-longs first 9 l inside)
 
 -- no refit without a fit
 ordered : (fit refit : ℕ) → fit ≤ 1 → refit ≤ fit → (eqb fit 1 || not (eqb refit 1)) ≡ true
@@ -120,38 +159,52 @@ ordered (suc fit) refit h g = ap (λ b. b || not (eqb refit 1)) (eq-eqb (suc fit
 unordered : (fit refit : ℕ) → refit ≤ 1 → fit < refit → (eqb fit 1 || not (eqb refit 1)) ≡ false
 unordered fit refit h g = rw (ne-eqb fit 1 (λ e. omega (arith, e, g, h)), eq-eqb refit 1 (omega arith))
 
+module _ (fit refit : ℕ) where
+  pub fit-mark : 1 < fit → false ≡ marksFormed fit refit
+  unfolding marksFormed
+  fit-mark h = rw (lt-leb fit 1 h)
+
+  pub refit-mark : 1 < refit → false ≡ marksFormed fit refit
+  unfolding marksFormed
+  refit-mark h = rw (lt-leb refit 1 h, and-false)
+
+  pub refit-alone : refit ≤ 1 → fit < refit → false ≡ marksFormed fit refit
+  unfolding marksFormed
+  refit-alone h g = rw (unordered fit refit h g, and-false, and-false)
+
+  pub marks-right : fit ≤ 1 → refit ≤ fit → true ≡ marksFormed fit refit
+  unfolding marksFormed
+  marks-right h g = rw (le-leb fit 1 h, le-leb refit 1 (omega arith), ordered fit refit h g)
+
 module _ (l : List ℕ) where
   pub trial-length : (length l ≡ 152 → ⊥) → false ≡ trialFormed l
   unfolding trialFormed
-  trial-length h = rw (ne-eqb (length l) 152 h)
+  trial-length h = rw (trial-size, ne-eqb (length l) 152 h)
 
-  pub trial-filler : {zeros : Bool} → zeros ≡ zeroBytes 2 8 l → not zeros ≡ true → false ≡ trialFormed l
-  unfolding trialFormed
-  trial-filler e h = simp (failed e h, and-false)
-
-  module _ {fit : ℕ} (a : fit ≡ byteAt l 0) where
-    pub fit-mark : 1 < fit → false ≡ trialFormed l
+  module _ (size : length l ≡ 152) where
+    trial-fields : trialFormed l ≡ trialSound (unpacked trialLayout l)
     unfolding trialFormed
-    fit-mark h = rw (← a) (simp (lt-leb fit 1 h, and-false))
+    trial-fields = rw (trial-size, eq-eqb (length l) 152 size)
 
-    pub fit-numbers : {r : Bool} → r ≡ numbersFormed l (eqb fit 1) 1 → not r ≡ true → false ≡ trialFormed l
-    unfolding trialFormed marked
-    fit-numbers e h = rw (← a) (simp (failed e h, and-false))
+    module _ {fit refit : ℕ} (a : fit ≡ byteAt l 0) (b : refit ≡ byteAt l 1) {marks : Bool} (m : marks ≡ marksFormed fit refit) where
+      -- the fields as they were read
+      sound : marksFormed fit refit && (zeroBytes 2 8 l && (numbersFormed (eqb fit 1) (take 9 (drop 1 (longsOf l))) && numbersFormed (eqb refit 1) (take 9 (drop 10 (longsOf l))))) ≡ trialFormed l
+      unfolding trialSound marked
+      sound =
+          rw (trial-fields, a ∙ fit-placed l size, b ∙ refit-mark-placed l size, trial-filler-placed l size, fit-bits-placed l size, refit-bits-placed l size)
 
-    module _ {refit : ℕ} (b : refit ≡ byteAt l 1) where
-      pub refit-mark : 1 < refit → false ≡ trialFormed l
-      unfolding trialFormed
-      refit-mark h = rw (← b) (simp (lt-leb refit 1 h, and-false))
+      pub trial-marks : not marks ≡ true → false ≡ trialFormed l
+      trial-marks h = rw (← sound, failed m h)
 
-      pub refit-alone : fit < refit → false ≡ trialFormed l
-      unfolding trialFormed marked
-      refit-alone h = ⊎-elim (λ g. rw (← a, ← b) (simp (unordered fit refit g h, and-false))) refit-mark (le-or-gt refit 1)
+      pub trial-filler : {zeros : Bool} → zeros ≡ zeroBytes 2 8 l → not zeros ≡ true → false ≡ trialFormed l
+      trial-filler e h = rw (← sound, failed e h, and-false)
 
-      pub trial-whole : length l ≡ 152 → fit ≤ 1 → refit ≤ 1 → {zeros : Bool} → zeros ≡ zeroBytes 2 8 l → not zeros ≡ false → refit ≤ fit
-          → {r : Bool} → r ≡ numbersFormed l (eqb fit 1) 1 → not r ≡ false → {q : Bool} → q ≡ numbersFormed l (eqb refit 1) 10 → q ≡ trialFormed l
-      unfolding trialFormed marked
-      trial-whole size small less z good order f fits e =
-          rw (eq-eqb (length l) 152 size, ← a, ← b, le-leb fit 1 small, le-leb refit 1 less, held z good, ordered fit refit small order, held f fits) e
+      pub fit-numbers : {r : Bool} → r ≡ numbersFormed (eqb fit 1) (take 9 (drop 1 (longsOf l))) → not r ≡ true → false ≡ trialFormed l
+      fit-numbers e h = rw (← sound, failed e h, and-false, and-false)
+
+      pub trial-whole : not marks ≡ false → {zeros : Bool} → zeros ≡ zeroBytes 2 8 l → not zeros ≡ false
+          → {r : Bool} → r ≡ numbersFormed (eqb fit 1) (take 9 (drop 1 (longsOf l))) → not r ≡ false → {q : Bool} → q ≡ numbersFormed (eqb refit 1) (take 9 (drop 10 (longsOf l))) → q ≡ trialFormed l
+      trial-whole right z good f fits e = rw (← sound, held m right, held z good, held f fits) e
 
   -- ---- the trial
 
@@ -165,16 +218,26 @@ module _ (l : List ℕ) where
       unfolding trialAnswer decided firstFailed trialRecord
       given = rw (held is good)
 
+      size-of : length l ≡ 152
+      unfolding trialFormed
+      size-of = eqb→eq (length l) 152 (rw (← trial-size) (and-l (eqb (length l) (sizeOf trialLayout)) (trialSound (unpacked trialLayout l)) (is-test (trialFormed l) (held is good))))
+
       module _ {refit : ℕ} (b : refit ≡ byteAt l 1) where
-        pub trial-refitted : refit ≡ 1 → {m n : Model} → m ≡ modelAt l 1 → n ≡ modelAt l 10 → gives (refitted m n) ≡ trialAnswer l
-        unfolding trialOf marked
-        trial-refitted h e f = rw (← given, ← b, eq-eqb refit 1 h, e, f)
+        refit-here : refit ≡ getD (unpacked trialLayout l) 1 0
+        refit-here = b ∙ refit-mark-placed l size-of
+
+        pub trial-refitted : refit ≡ 1 → {m n : Model} → m ≡ modelFrom (take 9 (drop 1 (longsOf l))) → n ≡ modelFrom (take 9 (drop 10 (longsOf l))) → gives (refitted m n) ≡ trialAnswer l
+        unfolding trialOf trialFrom marked
+        trial-refitted h e f = rw (← given, ← refit-here, eq-eqb refit 1 h, fit-bits-placed l size-of, refit-bits-placed l size-of, e, f)
 
         module _ (none : refit ≡ 1 → ⊥) {fit : ℕ} (a : fit ≡ byteAt l 0) where
-          pub trial-fitted : fit ≡ 1 → {m : Model} → m ≡ modelAt l 1 → gives (fitted m) ≡ trialAnswer l
-          unfolding trialOf marked
-          trial-fitted h e = rw (← given, ← b, ne-eqb refit 1 none, ← a, eq-eqb fit 1 h, e)
+          fit-here : fit ≡ getD (unpacked trialLayout l) 0 0
+          fit-here = a ∙ fit-placed l size-of
+
+          pub trial-fitted : fit ≡ 1 → {m : Model} → m ≡ modelFrom (take 9 (drop 1 (longsOf l))) → gives (fitted m) ≡ trialAnswer l
+          unfolding trialOf trialFrom marked
+          trial-fitted h e = rw (← given, ← refit-here, ne-eqb refit 1 none, ← fit-here, eq-eqb fit 1 h, fit-bits-placed l size-of, e)
 
           pub trial-unfitted : (fit ≡ 1 → ⊥) → gives unfitted ≡ trialAnswer l
-          unfolding trialOf marked
-          trial-unfitted h = rw (← given, ← b, ne-eqb refit 1 none, ← a, ne-eqb fit 1 h)
+          unfolding trialOf trialFrom marked
+          trial-unfitted h = rw (← given, ← refit-here, ne-eqb refit 1 none, ← fit-here, ne-eqb fit 1 h)

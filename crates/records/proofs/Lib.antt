@@ -1,3 +1,4 @@
+pub mod Placed
 pub mod Reading
 pub mod Formed
 pub mod View

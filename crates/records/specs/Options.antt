@@ -3,37 +3,48 @@ use mathlib.Core.Bool.{Bool, true, not, _&&_, _||_}
 use mathlib.Core.List.{List, [], _∷_}
 use Prim.Native.Nat.{ℕ}
 use lib.Dec.{ltb, leb, eqb}
-use lib.ListN.{length}
-use lib.Ieee.{Float, lt}
+use lib.ListN.{length, getD}
+use lib.Ieee.{Float, binary64, ofBits, lt}
 use Rattle.rule.specs.Refusal.{RECORD, THRESH, CONFIDENCE, ITERS}
 use Rattle.rule.specs.Answer.{Answer, refused, gives}
 use Rattle.rule.specs.Order.{Test, firstFailed, decided}
 use Rattle.numbers.specs.Constants.{zero′, one, usualConfidence}
 use Rattle.numbers.specs.Finite.{isFinite}
-use Rattle.fields.specs.Fields.{byteAt, wordAt, doubleAt, zeroBytes}
+use Rattle.fields.specs.Packing.{sizeOf, unpacked}
 use Rattle.records.specs.declared.options.RansacOptions.{RansacOptions}
 use Rattle.records.specs.declared.options.OptionsRead.{OptionsRead}
 use Rattle.records.specs.declared.options.OptionsRead.the-variants.{Options, Refused}
 
 -- ---- the record
 
--- 32 bytes: the refit mark, byte 24, is 0 or 1, and seven zero bytes follow
+-- thresh (f64), confidence (f64), max_iters (u32), min_inliers (u32), refit mark, seven zero bytes
+unfoldable pub optionsLayout : List ℕ
+optionsLayout = 8 ∷ 8 ∷ 4 ∷ 4 ∷ 1 ∷ 7 ∷ []
+
+-- of what stands in the fields: the refit mark is 0 or 1, and zero bytes follow
+unfoldable pub optionsSound : (fields : List ℕ) → Bool
+optionsSound f = leb (getD f 4 0) 1 && eqb (getD f 5 0) 0
+
+unfoldable pub optionsFrom : (fields : List ℕ) → RansacOptions
+optionsFrom f =
+    record {
+      thresh = ofBits binary64 (getD f 0 0);
+      confidence = ofBits binary64 (getD f 1 0);
+      «max_iters» = getD f 2 0;
+      «min_inliers» = getD f 3 0;
+      refit = eqb (getD f 4 0) 1;
+    }
+
+-- the length, and the fields
 unfoldable pub optionsFormed : List ℕ → Bool
-optionsFormed l = eqb (length l) 32 && (leb (byteAt l 24) 1 && zeroBytes 25 32 l)
+optionsFormed l = eqb (length l) (sizeOf optionsLayout) && optionsSound (unpacked optionsLayout l)
 
 -- 1
 unfoldable pub optionsRecord : List ℕ → Test
 optionsRecord l = record { fails = not (optionsFormed l); number = RECORD }
 
 unfoldable pub optionsOf : List ℕ → RansacOptions
-optionsOf l =
-    record {
-      thresh = doubleAt l 0;
-      confidence = doubleAt l 1;
-      «max_iters» = wordAt l 4;
-      «min_inliers» = wordAt l 5;
-      refit = eqb (byteAt l 24) 1;
-    }
+optionsOf l = optionsFrom (unpacked optionsLayout l)
 
 unfoldable pub optionsAnswer : List ℕ → Answer RansacOptions
 optionsAnswer l = decided (firstFailed (optionsRecord l ∷ [])) (optionsOf l)

@@ -12,4 +12,5 @@ pub use options::read_options;
 pub use options::validate;
 pub use trial::Recorded;
 pub use trial::Refitted;
+pub use trial::marks_formed;
 pub use trial::read_trial;

@@ -1,8 +1,10 @@
 // One trial as the fitter records it (document 01, 'Trials'): a fit and perhaps its refit, or none.
 use sheet::Model;
 ghost use mathlib.Core.Path.{_≡_};
-ghost use Prim.Native.Nat.{_≤_};
-ghost use Rattle.records.specs.Trial.{modelAt, numbersFormed, trialFormed, trialAnswer, viewRecorded};
+ghost use Prim.Native.Nat.{_+_, _*_, _≤_};
+ghost use lib.ListN.{length, take, drop};
+ghost use Rattle.fields.specs.Fields.{longsOf};
+ghost use Rattle.records.specs.Trial.{modelFrom, marksFormed, numbersFormed, trialFormed, trialAnswer, viewRecorded};
 
 pub struct Refitted {
     pub fit: Model,
@@ -20,7 +22,7 @@ pub enum Recorded {
 // The nine numbers from the double at place `i` on.
 fn model_at(bytes: &[u8], i: usize) -> Model
     requires { ⌜ i ≤ 10 ⌝ }
-    ensures { λ r. ⌜ r ≡ modelAt (now (bytes .entry)) i ⌝ }
+    ensures { λ r. ⌜ r ≡ modelFrom (take 9 (drop i (longsOf (now (bytes .entry))))) ⌝ }
 {
     Model {
         h0: fields::double_at(bytes, i),
@@ -39,7 +41,8 @@ fn model_at(bytes: &[u8], i: usize) -> Model
 // zero bytes, if not.
 fn numbers_formed(bytes: &[u8], mark: bool, first: usize) -> bool
     requires { ⌜ first ≤ 10 ⌝ }
-    ensures { λ r. ⌜ r ≡ numbersFormed (now (bytes .entry)) mark first ⌝ }
+    requires { ⌜ 8 * first + 72 ≤ length (now bytes) ⌝ }
+    ensures { λ r. ⌜ r ≡ numbersFormed mark (take 9 (drop first (longsOf (now (bytes .entry))))) ⌝ }
 {
     if mark {
         sheet::model_finite(model_at(bytes, first))
@@ -47,6 +50,22 @@ fn numbers_formed(bytes: &[u8], mark: bool, first: usize) -> bool
         let a = 8 * first;
         fields::zero_bytes(bytes, a, a + 72)
     }
+}
+
+// Whether each of a trial's marks is 0 or 1, and there is no refit without a fit.
+pub fn marks_formed(fit: u8, refit: u8) -> bool
+    ensures { λ r. ⌜ r ≡ marksFormed fit refit ⌝ }
+{
+    if 1 < fit {
+        return false;
+    }
+    if 1 < refit {
+        return false;
+    }
+    if fit < refit {
+        return false;
+    }
+    true
 }
 
 // Whether the bytes are a trial's record.
@@ -58,16 +77,10 @@ fn trial_formed(bytes: &[u8]) -> bool
     }
     let fit = fields::byte_at(bytes, 0);
     let refit = fields::byte_at(bytes, 1);
-    if 1 < fit {
-        return false;
-    }
-    if 1 < refit {
+    if !marks_formed(fit, refit) {
         return false;
     }
     if !fields::zero_bytes(bytes, 2, 8) {
-        return false;
-    }
-    if fit < refit {
         return false;
     }
     if !numbers_formed(bytes, fit == 1, 1) {

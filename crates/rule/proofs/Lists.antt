@@ -30,6 +30,16 @@ place-read [] i d e h = absurd (omega (arith, h))
 place-read (a ∷ l) zero d e h = refl
 place-read (a ∷ l) (suc i) d e h = place-read l i d e (omega (arith, h))
 
+-- a list of n elements more than i, from place i on, one by one
+unfoldable pub placesAt : {A : Type 0} → (n i : ℕ) → List A → A → List A
+placesAt zero i l d = []
+placesAt (suc n) i l d = getD l i d ∷ placesAt n (suc i) l d
+
+pub one-by-one : {A : Type 0} (n i : ℕ) (l : List A) (d : A) → length l ≡ i + n → drop i l ≡ placesAt n i l d
+unfolding placesAt
+one-by-one zero i l d h = drop-of-length-le l {i = i} (omega (arith, h))
+one-by-one (suc n) i l d h = drop-cons l i d (omega (arith, h)) ∙ ap (λ rest. getD l i d ∷ rest) (one-by-one n (suc i) l d (omega (arith, h)))
+
 -- ---- a test of every element
 
 module _ {A : Type 0} (test : A → Bool) (l : List A) (d : A) where

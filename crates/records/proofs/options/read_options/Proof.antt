@@ -15,7 +15,7 @@ byte-at-requires c κs = search needs
 
 returns-2 : tie.Need-returns-2
 unfolding viewOptions
-returns-2 c = options-mark _ (c .before .byte-at .ensures) (omega arith)
+returns-2 c = options-mark _ (c .before .before .if1 .left) (c .before .byte-at .ensures) (omega arith)
 
 zero-bytes-requires : tie.Need-zero-bytes-requires
 zero-bytes-requires c κs = search needs

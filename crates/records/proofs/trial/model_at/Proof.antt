@@ -1,6 +1,6 @@
 -- `records::trial::model_at` meets its contract. Assumes nothing.
 use borrow.Author.Needs.{needs}
-use Rattle.records.specs.Trial.{modelAt}
+use Rattle.records.proofs.Formed.{model-read}
 use Rattle.records.proofs.trial.model_at.Statement.{statement}
 use Rattle.records.proofs.trial.model_at.Tie as tie
 
@@ -56,8 +56,7 @@ double-at-requires-9 : tie.Need-double-at-requires-9
 double-at-requires-9 c κs = search needs
 
 returns : tie.Need-returns
-unfolding modelAt
-returns c = rw (← c .before .before .before .before .before .before .before .before .double-at .ensures, ← c .before .before .before .before .before .before .before .double-at2 .ensures, ← c .before .before .before .before .before .before .double-at3 .ensures, ← c .before .before .before .before .before .double-at4 .ensures, ← c .before .before .before .before .double-at5 .ensures, ← c .before .before .before .double-at6 .ensures, ← c .before .before .double-at7 .ensures, ← c .before .double-at8 .ensures, ← c .double-at9 .ensures)
+returns c = search model-read
 
 pub model-at-spec : {M : Type 1} → statement M
 model-at-spec =
