@@ -10,7 +10,7 @@ use lib.Dec.{T, ltb, eqb, ltb→lt}
 use lib.ListN.{length, getD, take, drop, replicate, length-append, length-drop, take-append-drop}
 use lib.Seq.{take-at, take-add, drop-at, drop-cons, drop-drop, length-take-le}
 use lib.Ieee.Fits.{and-i, and-l, and-r}
-use Rattle.rule.specs.Lists.{every, firstParts, partsOf}
+use Rattle.rule.specs.Lists.{every, firstParts, partsOf, forEach}
 use Rattle.fields.specs.Fields.{littleEndian, fieldsOf, longsOf, byteAt, zeroBytes, allBytes, bytesOf}
 use Rattle.fields.specs.Packing.{sizeOf, unpacked, fieldIn, packed}
 use Rattle.fields.proofs.Writing.{bytes-wide}
@@ -60,6 +60,25 @@ pub data Fit : List ℕ → List ℕ → Type 0 where
   none : Fit [] []
   more : {w n : ℕ} {layout numbers : List ℕ} → n < 256 ^ w → Fit layout numbers → Fit (w ∷ layout) (n ∷ numbers)
 
+pub fit-length : {layout numbers : List ℕ} → Fit layout numbers → length numbers ≡ length layout
+fit-length none = refl
+fit-length (more h fit) = ap suc (fit-length fit)
+
+pub fit-at : {layout numbers : List ℕ} → Fit layout numbers → (i : ℕ) → i < length layout → getD numbers i 0 < 256 ^ getD layout i 0
+fit-at none i h = absurd (omega (arith, h))
+fit-at (more g fit) zero h = g
+fit-at (more g fit) (suc i) h = fit-at fit i (omega (arith, h))
+
+pub fit-taken : {layout numbers : List ℕ} (i : ℕ) → Fit layout numbers → Fit (take i layout) (take i numbers)
+fit-taken zero fit = none
+fit-taken (suc i) none = none
+fit-taken (suc i) (more h fit) = more h (fit-taken i fit)
+
+pub fit-left : {layout numbers : List ℕ} (i : ℕ) → Fit layout numbers → Fit (drop i layout) (drop i numbers)
+fit-left zero fit = fit
+fit-left (suc i) none = none
+fit-left (suc i) (more h fit) = fit-left i fit
+
 pub packed-size : {layout numbers : List ℕ} → Fit layout numbers → length (packed layout numbers) ≡ sizeOf layout
 unfolding packed sizeOf
 packed-size none = refl
@@ -101,6 +120,11 @@ packed-unpacked (w ∷ layout) l h t =
     ap₂ (λ a b. a ++ b) first (packed-unpacked layout (drop w l) (rest-size w layout l h) (bytes-left w l t)) ∙ take-append-drop w l
 
 -- ---- fields of one width
+
+pub packed-even : (w : ℕ) (numbers : List ℕ) → packed (replicate (length numbers) w) numbers ≡ forEach (bytesOf w) numbers
+unfolding packed forEach
+packed-even w [] = refl
+packed-even w (n ∷ numbers) = ap (λ rest. bytesOf w n ++ rest) (packed-even w numbers)
 
 pub unpacked-even : (w n : ℕ) (l : List ℕ) → unpacked (replicate n w) l ≡ map littleEndian (firstParts w n l)
 unfolding unpacked firstParts

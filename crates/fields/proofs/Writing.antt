@@ -1,6 +1,6 @@
 -- The bytes of a number in a lent list. Assumes nothing.
 use mathlib.Core.Path.{_≡_, refl, sym, ap, _∙_}
-use mathlib.Core.List.{List, _++_}
+use mathlib.Core.List.{List, [], _++_}
 use Prim.Native.Nat.{ℕ, zero, suc, _+_, _-_, _*_, _/_, _%_, _^_, _≤_, _<_}
 use native.Mathlib.Nat.{zero-add, le-of-lt, le-trans, mul-assoc, mul-suc, mul-le-mul-left, mod-add-div, div-one, div-div-eq-div-mul, pow-zero, pow-succ', suc-add}
 use native.Mathlib.Omega.{arith}
@@ -48,38 +48,47 @@ word-put n l h g =
     let f : n / 0x100_0000 ≡ n / 256 / 256 / 256 % 256 = omega arith in
     rw (e, f) (filled-sets (bytesOf 4 n) l g)
 
--- two words, one after the other
+-- ---- lists one after the other from the front of a lent list, each into its own part
 
-module _ (n : ℕ) (s : List ℕ) (room : 8 ≤ length s) where
-  abbrev low : List ℕ
-  low = bytesOf 4 (n % 0x1_0000_0000)
+module _ {A : Type 0} (entry : List A) where
+  -- these are laid over its front, and the rest is as it was
+  pub record Laid (xs s : List A) : Type 0 where
+    pub is : s ≡ replaced 0 xs entry
 
-  abbrev high : List ℕ
-  high = bytesOf 4 (n / 0x1_0000_0000)
+  pub laid-none : Laid [] entry
+  unfolding replaced
+  laid-none = record { is = refl }
 
-  both : bytesOf 8 n ≡ low ++ high
-  both = bytes-add 4 4 n ∙ rw (low-bytes 4 n)
+  module _ {xs s : List A} (k : Laid xs s) (room : length xs ≤ length entry) where
+    pub laid-length : length s ≡ length entry
+    laid-length = ap length (k .is) ∙ replaced-length 0 xs entry (rw (zero-add (length xs)) room)
 
-  low-wide : length low ≡ 4
-  low-wide = bytes-wide 4 (n % 0x1_0000_0000)
+    pub laid-all : s ≡ filled xs entry
+    laid-all = k .is ∙ filled-replaced xs entry room
 
-  high-wide : length high ≡ 4
-  high-wide = bytes-wide 4 (n / 0x1_0000_0000)
+    pub laid-more : {part : List A} (at end : ℕ) (ys : List A) → length xs ≡ at → at + length ys ≡ end → end ≤ length entry → part ≡ filled ys (midOf at (end - at) s)
+        → Laid (xs ++ ys) (putMid at (end - at) s part)
+    laid-more {part} at end ys e f g p =
+        record {
+          is =
+              part-filled at end ys s f (rw laid-length g) p
+              ∙ ap (replaced at ys) (k .is)
+              ∙ ap (λ j. replaced j ys (replaced 0 xs entry)) (sym e ∙ sym (zero-add (length xs)))
+              ∙ replaced-twice 0 xs ys entry (rw (zero-add (length xs)) room);
+        }
 
-  twice : replaced 4 high (replaced 0 low s) ≡ filled (bytesOf 8 n) s
-  twice =
-      ap (λ k. replaced k high (replaced 0 low s)) (sym (zero-add (length low) ∙ low-wide))
-      ∙ replaced-twice 0 low high s (rw (zero-add (length low), low-wide) (omega arith))
-      ∙ filled-replaced (low ++ high) s (rw (← both, bytes-wide 8 n) room)
-      ∙ ap (λ xs. filled xs s) (sym both)
-
-  pub long-put : {a b : List ℕ} → a ≡ filled low (midOf 0 (4 - 0) s) → b ≡ filled high (midOf 4 (8 - 4) (putMid 0 (4 - 0) s a))
-      → putMid 4 (8 - 4) (putMid 0 (4 - 0) s a) b ≡ filled (bytesOf 8 n) s
-  long-put {a} {b} d e =
-      let f : putMid 0 (4 - 0) s a ≡ replaced 0 low s = part-filled 0 4 low s (zero-add (length low) ∙ low-wide) (omega arith) d in
-      part-filled 4 8 high (putMid 0 (4 - 0) s a) (ap (λ k. 4 + k) high-wide) (rw (f, replaced-length 0 low s (rw (zero-add (length low), low-wide) (omega arith))) room) e
-      ∙ ap (replaced 4 high) f
-      ∙ twice
+-- two words are a long
+pub long-put : (n : ℕ) (s : List ℕ) → 8 ≤ length s → {a b : List ℕ} → a ≡ filled (bytesOf 4 (n % 0x1_0000_0000)) (midOf 0 (4 - 0) s)
+    → b ≡ filled (bytesOf 4 (n / 0x1_0000_0000)) (midOf 4 (8 - 4) (putMid 0 (4 - 0) s a)) → putMid 4 (8 - 4) (putMid 0 (4 - 0) s a) b ≡ filled (bytesOf 8 n) s
+long-put n s room {a} {b} d e =
+    let low = bytesOf 4 (n % 0x1_0000_0000) in
+    let high = bytesOf 4 (n / 0x1_0000_0000) in
+    let l : length low ≡ 4 = bytes-wide 4 (n % 0x1_0000_0000) in
+    let h : length high ≡ 4 = bytes-wide 4 (n / 0x1_0000_0000) in
+    let both : bytesOf 8 n ≡ low ++ high = bytes-add 4 4 n ∙ rw (low-bytes 4 n) in
+    let one = laid-more s (laid-none s) (omega arith) 0 4 low refl (rw l (omega arith)) (omega arith) d in
+    let two = laid-more s one (rw l (omega arith)) 4 8 high l (rw h (omega arith)) room e in
+    laid-all s two (rw (← both, bytes-wide 8 n) room) ∙ ap (λ xs. filled xs s) (sym both)
 
 -- ---- each element's bytes, w places each
 

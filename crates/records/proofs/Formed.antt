@@ -132,7 +132,7 @@ module _ (l : List ℕ) (i : ℕ) where
       rw (e0 ∙ ap (doubleAt l) (sym (add-zero i)) ∙ number-read 0 (omega arith), e1 ∙ number-read 1 (omega arith), e2 ∙ number-read 2 (omega arith), e3 ∙ number-read 3 (omega arith), e4 ∙ number-read 4 (omega arith), e5 ∙ number-read 5 (omega arith), e6 ∙ number-read 6 (omega arith), e7 ∙ number-read 7 (omega arith), e8 ∙ number-read 8 (omega arith))
 
 -- a model's numbers, marked or not
-nine : (bits : List ℕ) → length bits ≡ 9 → modelNumbers (modelFrom bits) ≡ map (ofBits binary64) bits
+pub nine : (bits : List ℕ) → length bits ≡ 9 → modelNumbers (modelFrom bits) ≡ map (ofBits binary64) bits
 unfolding modelNumbers modelFrom placesAt
 nine bits size = ap (map (ofBits binary64)) (sym (one-by-one 9 0 bits 0 size))
 

@@ -1,15 +1,17 @@
 -- A refusal order, test by test: the first that fails answers, and one that passes leaves the answer to the rest. Assumes nothing.
-use mathlib.Core.Path.{_≡_, refl, sym}
+use mathlib.Core.Path.{_≡_, refl, sym, _∙_}
+use mathlib.Core.Logic.{⊎-elim}
 use mathlib.Core.Bool.{Bool, true, false, _&&_, cond}
 use mathlib.Core.List.{List, [], _∷_, _++_}
 use Prim.Native.Nat.{ℕ, zero, suc, _≤_, _<_}
 use native.Mathlib.Omega.{arith}
 use borrow.Author.Tests.{lt-ltb, le-ltb}
 use lib.Dec.{T, ltb}
-use lib.Ieee.Fits.{and-l, and-r}
+use lib.Ieee.Fits.{and-i, and-l, and-r}
 use Rattle.rule.specs.Refusal.{ROOM}
 use Rattle.rule.specs.Answer.{refused, gives}
 use Rattle.rule.specs.Order.{Test, firstFailed, decided, ifPassed, room}
+use Rattle.rule.proofs.Tests.{le-or-gt}
 
 -- ---- one test
 
@@ -27,6 +29,9 @@ module _ (needed places : ℕ) where
   pub too-small : places < needed → ROOM ≡ firstFailed (room needed places ∷ [])
   unfolding firstFailed room
   too-small h = rw (lt-ltb places needed h)
+
+  pub fits-room : firstFailed (room needed places ∷ []) ≡ 0 → needed ≤ places
+  fits-room h = ⊎-elim (λ g. g) (λ g. absurd (let e : _≡_ {A = ℕ} ROOM 0 = too-small g ∙ h in omega (arith, e))) (le-or-gt needed places)
 
   pub large-enough : needed ≤ places → 0 ≡ firstFailed (room needed places ∷ [])
   unfolding firstFailed room
@@ -61,6 +66,20 @@ one-failed (t ∷ ts) us h = go (t .fails) (λ e. one-failed ts us e) h
         → cond b (t .number) (firstFailed ts) ≡ cond b (t .number) (firstFailed (ts ++ us))
     go true rest e = refl
     go false rest e = rest e
+
+-- where no test of both failed, none of the first did
+pub none-failed : (ts us : List Test) → firstFailed (ts ++ us) ≡ 0 → firstFailed ts ≡ 0
+none-failed ts us h = go (firstFailed ts) refl
+  where
+    go : (k : ℕ) → firstFailed ts ≡ k → firstFailed ts ≡ 0
+    go zero e = e
+    go (suc k) e = one-failed ts us (λ z. absurd (let y = sym e ∙ z in omega (arith, y))) ∙ h
+
+pub numbered-append : (ts us : List Test) → T (numbered ts) → T (numbered us) → T (numbered (ts ++ us))
+unfolding numbered
+numbered-append [] us p q = q
+numbered-append (t ∷ ts) us p q =
+    and-i (ltb 0 (t .number)) (numbered (ts ++ us)) (and-l (ltb 0 (t .number)) (numbered ts) p) (numbered-append ts us (and-r (ltb 0 (t .number)) (numbered ts) p) q)
 
 -- where no test failed, the first one passed
 pub first-passed : (t : Test) (ts : List Test) → T (ltb 0 (t .number)) → firstFailed (t ∷ ts) ≡ 0 → (t .fails ≡ false) × (firstFailed ts ≡ 0)

@@ -1,0 +1,6 @@
+pub mod Answers
+pub mod Bits
+pub mod Faith
+pub mod OfMark
+pub mod OfOptions
+pub mod OfTrial
