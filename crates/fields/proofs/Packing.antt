@@ -1,9 +1,9 @@
 -- One layout packs and unpacks: the numbers that were packed are found in the fields, and what was unpacked packs to the same bytes. Assumes nothing.
 use mathlib.Core.Path.{_≡_, refl, sym, ap, ap₂, subst, _∙_}
 use mathlib.Core.Bool.{Bool, true, false, _&&_}
-use mathlib.Core.List.{List, [], _∷_, _++_, map, append-nil}
+use mathlib.Core.List.{List, [], _∷_, _++_, map}
 use Prim.Native.Nat.{ℕ, zero, suc, _+_, _*_, _/_, _%_, _^_, _≤_, _<_}
-use native.Mathlib.Nat.{add-comm, le-of-eq, le-add-right, mul-zero, mul-suc, pow-zero, pow-succ', mod-eq-of-lt}
+use native.Mathlib.Nat.{add-comm, le-add-right, mul-zero, mul-suc, pow-zero, pow-succ', mod-eq-of-lt}
 use native.Mathlib.Omega.{arith}
 use borrow.Author.Tests.{ne-eqb}
 use lib.Dec.{T, ltb, eqb, ltb→lt}
@@ -121,6 +121,11 @@ packed-unpacked (w ∷ layout) l h t =
 
 -- ---- fields of one width
 
+pub even-size : (w n : ℕ) → sizeOf (replicate n w) ≡ w * n
+unfolding sizeOf
+even-size w zero = sym (mul-zero w)
+even-size w (suc n) = ap (λ k. w + k) (even-size w n) ∙ sym (mul-suc w n ∙ add-comm (w * n) w)
+
 pub packed-even : (w : ℕ) (numbers : List ℕ) → packed (replicate (length numbers) w) numbers ≡ forEach (bytesOf w) numbers
 unfolding packed forEach
 packed-even w [] = refl
@@ -165,7 +170,7 @@ pub zero-spelled : (from w : ℕ) (l : List ℕ) → from ≤ length l → zeroB
 unfolding zeroBytes
 zero-spelled from w l h = ap (every (λ b. eqb b 0)) (middle from w l h) ∙ spelled-zero (take w (drop from l))
 
-every-append : {A : Type 0} (test : A → Bool) (k l : List A) → every test (k ++ l) ≡ (every test k && every test l)
+pub every-append : {A : Type 0} (test : A → Bool) (k l : List A) → every test (k ++ l) ≡ (every test k && every test l)
 unfolding every
 every-append test [] l = refl
 every-append test (a ∷ k) l = ap (λ b. test a && b) (every-append test k l) ∙ sym (and-assoc (test a) (every test k) (every test l))

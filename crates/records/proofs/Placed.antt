@@ -1,14 +1,14 @@
 -- Where the fields of an options record and of a trial's record stand in its bytes. Assumes nothing.
-use mathlib.Core.Path.{_≡_, refl, sym, ap, ap₂, _∙_}
-use mathlib.Core.List.{List, [], _∷_, map}
-use Prim.Native.Nat.{ℕ, _+_, _*_, _/_, _≤_}
+use mathlib.Core.Path.{_≡_, refl, sym, ap, _∙_}
+use mathlib.Core.List.{List, map}
+use Prim.Native.Nat.{ℕ, _/_}
 use native.Mathlib.Omega.{arith}
 use lib.Dec.{eqb}
 use lib.ListN.{length, getD, take, drop}
 use lib.Seq.{drop-drop}
 use lib.Ieee.{binary64, ofBits}
 use Rattle.rule.specs.Lists.{firstParts, partsOf}
-use Rattle.fields.specs.Fields.{littleEndian, fieldsOf, longsOf, byteAt, wordAt, longAt, doubleAt, zeroBytes}
+use Rattle.fields.specs.Fields.{littleEndian, fieldsOf, longsOf, byteAt, wordAt, doubleAt, zeroBytes}
 use Rattle.fields.specs.Packing.{sizeOf, unpacked, fieldIn}
 use Rattle.fields.proofs.Reading.{word-spelled, long-spelled}
 use Rattle.fields.proofs.Packing.{field-placed, byte-spelled, zero-spelled, unpacked-even}

@@ -13,7 +13,7 @@ use lib.Ieee.{Float}
 use Rattle.rule.specs.Refusal.{NONE}
 use Rattle.rule.specs.Answer.{Answer, refused}
 use Rattle.rule.specs.Lists.{forEach, replaced, filled}
-use Rattle.rule.proofs.Lists.{forEach-length, part-replaced, part-filled, replaced-length, replaced-twice, filled-is, filled-replaced, filled-whole, places-count}
+use Rattle.rule.proofs.Lists.{forEach-length, part-replaced, filled-is, filled-whole, places-count}
 use Rattle.sheet.specs.Marks.{marksOf}
 use Rattle.sheet.specs.Distance.{modelNumbers}
 use Rattle.sheet.specs.declared.model.Model.{Model}
@@ -22,7 +22,7 @@ use Rattle.book.specs.Score.{close, countIn}
 use Rattle.book.specs.Book.{Winner}
 use Rattle.book.proofs.Clear.{count-within}
 use Rattle.fields.specs.Fields.{bytesOf, doubleBytes}
-use Rattle.fields.proofs.Writing.{word-wide, double-wide}
+use Rattle.fields.proofs.Writing.{word-wide, double-wide, laid-none, laid-more, laid-all}
 use Rattle.measure.specs.Distances.{distancesOf}
 use Rattle.score.specs.Places.{indicesIn, cramped, indexed, indexCount}
 use Rattle.measure.proofs.Squares.{distances-count}
@@ -103,31 +103,17 @@ module _ (w : Winner Model) (s : List ℕ) (room : length s ≡ 88) where
   both-wide : length (count-bytes ++ number-bytes) ≡ 8
   both-wide = rw (length-append, word-wide (w .count), word-wide (w .number))
 
-  two : replaced 4 number-bytes (replaced 0 count-bytes s) ≡ replaced 0 (count-bytes ++ number-bytes) s
-  two =
-      ap (λ k. replaced k number-bytes (replaced 0 count-bytes s)) (sym (zero-add (length count-bytes) ∙ word-wide (w .count)))
-      ∙ replaced-twice 0 count-bytes number-bytes s (rw (zero-add (length count-bytes), word-wide (w .count)) (omega (arith, room)))
-
-  three : replaced 8 double-bytes (replaced 0 (count-bytes ++ number-bytes) s) ≡ winnerBytes w
-  three =
-      ap (λ k. replaced k double-bytes (replaced 0 (count-bytes ++ number-bytes) s)) (sym (zero-add (length (count-bytes ++ number-bytes)) ∙ both-wide))
-      ∙ replaced-twice 0 (count-bytes ++ number-bytes) double-bytes s (rw (zero-add (length (count-bytes ++ number-bytes)), both-wide) (omega (arith, room)))
-      ∙ ap (λ xs. replaced 0 xs s) parts
-      ∙ filled-replaced (winnerBytes w) s (rw (winner-wide w) (omega (arith, room)))
-      ∙ filled-whole (winnerBytes w) s (room ∙ sym (winner-wide w))
-
   pub winner-put : {a b c : List ℕ} → a ≡ filled count-bytes (midOf 0 (4 - 0) s) → b ≡ filled number-bytes (midOf 4 (8 - 4) (putMid 0 (4 - 0) s a))
       → c ≡ filled double-bytes (midOf 8 (88 - 8) (putMid 4 (8 - 4) (putMid 0 (4 - 0) s a) b))
       → putMid 8 (88 - 8) (putMid 4 (8 - 4) (putMid 0 (4 - 0) s a) b) c ≡ winnerBytes w
-  winner-put {a} {b} {c} d e f =
-      let p : putMid 0 (4 - 0) s a ≡ replaced 0 count-bytes s = part-filled 0 4 count-bytes s (zero-add (length count-bytes) ∙ word-wide (w .count)) (omega (arith, room)) d in
-      let one : length (putMid 0 (4 - 0) s a) ≡ 88 = ap length p ∙ replaced-length 0 count-bytes s (rw (zero-add (length count-bytes), word-wide (w .count)) (omega (arith, room))) ∙ room in
-      let q : putMid 4 (8 - 4) (putMid 0 (4 - 0) s a) b ≡ replaced 0 (count-bytes ++ number-bytes) s =
-      part-filled 4 8 number-bytes (putMid 0 (4 - 0) s a) (ap (λ k. 4 + k) (word-wide (w .number))) (omega (arith, one)) e ∙ ap (replaced 4 number-bytes) p ∙ two in
-      let also : length (putMid 4 (8 - 4) (putMid 0 (4 - 0) s a) b) ≡ 88 = ap length q ∙ replaced-length 0 (count-bytes ++ number-bytes) s (rw (zero-add (length (count-bytes ++ number-bytes)), both-wide) (omega (arith, room))) ∙ room in
-      part-filled 8 88 double-bytes (putMid 4 (8 - 4) (putMid 0 (4 - 0) s a) b) (ap (λ k. 8 + k) doubles-wide) (omega (arith, also)) f
-      ∙ ap (replaced 8 double-bytes) q
-      ∙ three
+  winner-put d e f =
+      let p = word-wide (w .count) in
+      let q = word-wide (w .number) in
+      let one = laid-more s (laid-none s) (omega arith) 0 4 count-bytes refl (rw p (omega arith)) (omega (arith, room)) d in
+      let two = laid-more s one (rw p (omega (arith, room))) 4 8 number-bytes p (rw q (omega arith)) (omega (arith, room)) e in
+      let three = laid-more s two (rw both-wide (omega (arith, room))) 8 88 double-bytes both-wide (rw doubles-wide (omega arith)) (omega (arith, room)) f in
+      let wide : length (count-bytes ++ number-bytes ++ double-bytes) ≡ 88 = ap length parts ∙ winner-wide w in
+      laid-all s three (omega (arith, wide, room)) ∙ filled-whole (count-bytes ++ number-bytes ++ double-bytes) s (room ∙ sym wide) ∙ parts
 
 -- ---- the indices
 
