@@ -9,10 +9,11 @@ use lib.ListN.{length, getD, replicate, length-map}
 use lib.Ieee.{Float, nan, inf, fin, binary64, fits, ofBits, toBits, isNan, lt}
 use lib.Ieee.Fits.{and-i, and-l, and-r}
 use lib.Ieee.Bits.{ofBits-toBits, toBits-ofBits, toBits-lt}
-use Rattle.rule.specs.Lists.{every}
+use Rattle.rule.specs.Lists.{every, forEach}
 use Rattle.rule.proofs.Tests.{is-test}
 use Rattle.numbers.specs.Constants.{zero′}
 use Rattle.numbers.specs.Finite.{isFinite, allFinite}
+use Rattle.fields.specs.Fields.{bytesOf, doubleBytes}
 use Rattle.fields.proofs.Packing.{Fit, none, more}
 
 -- ---- one number
@@ -100,3 +101,9 @@ pub by-places : {A : Type 0} (test : A → Bool) (l : List A) (d : A) → ((i : 
 unfolding every
 by-places test [] d h = tt
 by-places test (a ∷ l) d h = and-i (test a) (every test l) (h zero) (by-places test l d (λ i. h (suc i)))
+
+-- the bytes of their bits are theirs
+pub bits-written : (l : List Float) → forEach (bytesOf 8) (map (toBits binary64) l) ≡ forEach doubleBytes l
+unfolding forEach doubleBytes
+bits-written [] = refl
+bits-written (x ∷ l) = ap (λ rest. bytesOf 8 (toBits binary64 x) ++ rest) (bits-written l)

@@ -9,7 +9,7 @@ use lib.Dec.{T, ltb, eqb, eqb→eq}
 use lib.ListN.{length, take, drop}
 use Rattle.rule.specs.Refusal.{ROOM}
 use Rattle.rule.specs.Answer.{refused, gives}
-use Rattle.rule.specs.Order.{Test, firstFailed, decided, room}
+use Rattle.rule.specs.Order.{firstFailed, decided, room}
 use Rattle.rule.specs.Lists.{filled}
 use Rattle.rule.proofs.Tests.{is-test}
 use Rattle.rule.proofs.Order.{numbered, all-passed, none-failed, numbered-append, first-passed, fits-room, decided-none, decided-some}

@@ -4,3 +4,4 @@ pub mod Faith
 pub mod OfMark
 pub mod OfOptions
 pub mod OfTrial
+pub mod Readers

@@ -46,7 +46,7 @@ module _ (m : Mark) where
   unfolding marksTests shape markNumbers
   one-mark = sym (passes (shape (markNumbers m)) (point (markNumbers m) ∷ []) refl)
 
-  packs : forEach doubleBytes (markNumbers m) ≡ recordOf markFormat m
+  pub packs : forEach doubleBytes (markNumbers m) ≡ recordOf markFormat m
   unfolding recordOf markFormat markLayout packed doubleBytes forEach markNumbers
   packs = refl
 
@@ -71,7 +71,7 @@ module _ (m : Mark) where
 
 -- ---- what the format keeps
 
-within-finite : (limit : Float) (l : List Float) → allWithin limit l ≡ true → allFinite l ≡ true
+pub within-finite : (limit : Float) (l : List Float) → allWithin limit l ≡ true → allFinite l ≡ true
 unfolding allWithin allFinite every within
 within-finite limit [] h = refl
 within-finite limit (x ∷ l) h =

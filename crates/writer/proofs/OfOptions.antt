@@ -8,9 +8,9 @@ use borrow.Author.Tests.{not-false, lt-leb, le-leb}
 use borrow.Rule.Slice.PartMut.{midOf, putMid}
 use lib.Dec.{T, leb, eqb, leb→le, eqb→eq}
 use lib.ListN.{length, getD}
-use lib.Ieee.{Float, binary64, fits, lt, ofBits, toBits}
+use lib.Ieee.{binary64, fits, lt, ofBits}
 use Rattle.rule.specs.Refusal.{RECORD, ROOM}
-use Rattle.rule.specs.Order.{Test, firstFailed}
+use Rattle.rule.specs.Order.{firstFailed}
 use Rattle.rule.specs.Lists.{forEach, filled}
 use Rattle.rule.proofs.Tests.{and-true, is-test}
 use Rattle.rule.proofs.Lists.{placesAt, one-by-one}
@@ -19,7 +19,7 @@ use Rattle.numbers.specs.Constants.{zero′, one}
 use Rattle.numbers.specs.Finite.{isFinite}
 use Rattle.fields.specs.Fields.{bytesOf, doubleBytes}
 use Rattle.fields.specs.Packing.{sizeOf, packed}
-use Rattle.fields.proofs.Writing.{bytes-add, Laid, laid-none, laid-more, laid-all}
+use Rattle.fields.proofs.Writing.{bytes-add, laid-none, laid-more, laid-all}
 use Rattle.fields.proofs.Packing.{Fit, none, more, fit-length, fit-at}
 use Rattle.records.specs.Options.{optionsLayout, optionsSound, optionsFrom, thresh, confidence, iters, optionsTests}
 use Rattle.records.specs.declared.options.RansacOptions.{RansacOptions}

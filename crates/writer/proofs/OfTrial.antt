@@ -9,12 +9,12 @@ use borrow.Rule.Slice.PartMut.{midOf, putMid}
 use lib.Dec.{T, leb, eqb, leb→le, eqb→eq}
 use lib.ListN.{length, getD, take, drop, replicate, length-append, length-drop, length-map, take-append-drop}
 use lib.Seq.{take-at, drop-at, take-all, drop-cons, drop-drop}
-use lib.Ieee.{Float, binary64, fits, ofBits, toBits}
+use lib.Ieee.{Float, binary64, fits, toBits}
 use Rattle.rule.specs.Refusal.{RECORD, ROOM}
 use Rattle.rule.specs.Order.{Test, firstFailed}
 use Rattle.rule.specs.Lists.{every, forEach, filled}
 use Rattle.rule.proofs.Tests.{and-false, is-test, failed, held}
-use Rattle.rule.proofs.Lists.{placesAt, one-by-one, forEach-append, forEach-length}
+use Rattle.rule.proofs.Lists.{forEach-append, forEach-length}
 use Rattle.rule.proofs.Order.{stops, passes, numbered, first-passed}
 use Rattle.numbers.specs.Constants.{zero′}
 use Rattle.numbers.specs.Finite.{allFinite}
@@ -23,14 +23,14 @@ use Rattle.sheet.specs.declared.model.Model.{Model}
 use Rattle.book.specs.Score.{Trial, unfitted, fitted, refitted}
 use Rattle.fields.specs.Fields.{bytesOf, doubleBytes}
 use Rattle.fields.specs.Packing.{sizeOf, packed}
-use Rattle.fields.proofs.Writing.{bytes-wide, bytes-add, double-wide, laid-none, laid-more, laid-all}
+use Rattle.fields.proofs.Writing.{bytes-wide, double-wide, laid-none, laid-more, laid-all}
 use Rattle.fields.proofs.Packing.{Fit, none, more, fit-length, fit-taken, fit-left, packed-even}
 use Rattle.records.specs.Trial.{trialLayout, fitBits, refitBits, modelFrom, marked, marksFormed, numbersFormed, trialSound, trialFrom}
 use Rattle.records.proofs.Formed.{nine}
 use Rattle.writer.specs.Format.{recordOf, Faithful}
 use Rattle.writer.specs.Formats.{TrialNumbers, trialNumbers, trialFields, nineEach, trialHeld, trialFormat}
 use Rattle.writer.proofs.Answers.{Wrote, turned-down, cramped, wrote}
-use Rattle.writer.proofs.Bits.{both-true, numbers-back, fields-fit, bits-again, zeros, zero-numbers, zeros-again, every-map}
+use Rattle.writer.proofs.Bits.{both-true, numbers-back, fields-fit, bits-again, zeros, zero-numbers, zeros-again, every-map, bits-written}
 use Rattle.writer.proofs.Faith.{Laws, faithful}
 
 -- ---- numbers, marked or not
@@ -89,11 +89,6 @@ marks-filler fit refit h g =
     let high : (fit + refit * 256) / 256 ≡ refit = omega (arith, h) in
     let none : refit / 256 ≡ 0 = omega (arith, g) in
     rw (low, high, none)
-
-bits-written : (l : List Float) → forEach (bytesOf 8) (map (toBits binary64) l) ≡ forEach doubleBytes l
-unfolding forEach doubleBytes
-bits-written [] = refl
-bits-written (x ∷ l) = ap (λ rest. bytesOf 8 (toBits binary64 x) ++ rest) (bits-written l)
 
 module _ (n : TrialNumbers) (a : length (n .fit) ≡ 9) (b : length (n .refit) ≡ 9) where
   abbrev front : List ℕ

@@ -1,6 +1,6 @@
 -- The three kinds of record that are written: options, a mark, a trial of a sheet. Doubles stand in the fields by their bits.
 use mathlib.Core.Path.{_≡_}
-use mathlib.Core.Bool.{Bool, not, cond, _&&_}
+use mathlib.Core.Bool.{not, cond, _&&_}
 use mathlib.Core.List.{List, [], _∷_, _++_, map}
 use Prim.Native.Nat.{ℕ, _<_}
 use lib.Dec.{T, eqb}

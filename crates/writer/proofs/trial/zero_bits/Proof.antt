@@ -35,7 +35,7 @@ bits-of-requires : tie.Need-bits-of-requires Inv-loop μ-loop
 bits-of-requires c κs = search needs
 
 returns : tie.Need-returns Inv-loop μ-loop
-returns c = every-stops zero-bits _ nan _ (c .before .before .before .loop-test .taken) (ap (λ b. eqb b 0) (sym (c .before .bits-of .ensures)) ∙ ne-eqb _ 0 (c .if1 .taken)) ∙ sym (c .before .before .before .before .loop .inv .1)
+returns c = every-stops zero-bits _ nan _ (c .before .before .before .loop-test .taken) (ap (λ b. eqb b 0) (sym (c .before .bits-of .ensures)) ∙ ne-eqb (c .before .bits-of .result) 0 (λ z. omega (arith, z))) ∙ sym (c .before .before .before .before .loop .inv .1)
 
 add-i : tie.Need-add-i Inv-loop μ-loop
 add-i c = omega arith
@@ -44,7 +44,7 @@ loop-less : tie.Need-loop-less Inv-loop μ-loop
 loop-less c = omega arith
 
 loop-again : tie.Need-loop-again Inv-loop μ-loop
-loop-again c = (omega arith, c .before .before .before .before .loop .inv .1 ∙ every-next zero-bits _ nan _ (c .before .before .before .loop-test .taken) (ap (λ b. eqb b 0) (sym (c .before .bits-of .ensures)) ∙ eq-eqb _ 0 (c .if1 .left)))
+loop-again c = (omega arith, c .before .before .before .before .loop .inv .1 ∙ every-next zero-bits _ nan _ (c .before .before .before .loop-test .taken) (ap (λ b. eqb b 0) (sym (c .before .bits-of .ensures)) ∙ eq-eqb (c .before .bits-of .result) 0 (omega arith)))
 
 returns-2 : tie.Need-returns-2 Inv-loop μ-loop
 returns-2 c = every-end zero-bits _ nan _ (c .loop-test .left) ∙ sym (c .before .loop .inv .1)
