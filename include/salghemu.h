@@ -1,6 +1,7 @@
 /*
  * Salghemu: of many candidate flattenings of a camera picture, picks the one
- * that most printed marks agree with. Link libsalghemu.a.
+ * that most printed marks agree with, and writes the records that it reads.
+ * Link libsalghemu.a.
  *
  * All numbers in the records are little-endian; a double is an IEEE 754
  * binary64.
@@ -28,7 +29,8 @@ extern "C" {
 enum salghemu_refusal {
     /* A record of a wrong length, with a mark other than 0 or 1, filler or an
        unmarked number that is not zero bytes, a refit without a fit, or a
-       number of a candidate that is not finite. */
+       number of a candidate that is not finite. A writer refuses with it the
+       numbers of such a record, and a list of other than nine numbers. */
     SALGHEMU_RECORD = 1,
     /* The threshold is not finite or not above 0. */
     SALGHEMU_THRESH = 2,
@@ -46,7 +48,7 @@ enum salghemu_refusal {
     SALGHEMU_STOPS = 8,
     /* An output is too short. */
     SALGHEMU_ROOM = 9,
-    /* A trial after the run's end; the whole run never answers it. */
+    /* A trial after the run's end; no function here answers it. */
     SALGHEMU_ENDED = 10,
     /* No trial was scored, so there is no winner. */
     SALGHEMU_NONE = 11,
@@ -97,6 +99,67 @@ uint32_t salghemu_run(const uint8_t *options, size_t options_len,
                       const uint8_t *trials, size_t trials_len,
                       uint8_t *winner, size_t winner_len,
                       uint8_t *indices, size_t indices_len);
+
+/*
+ * Writes the options, 32 bytes as the run reads them, to the front of out.
+ *
+ * thresh, confidence      the threshold and the confidence.
+ * max_iters, min_inliers  most iterations, least marks of a scored trial.
+ * refit_mark              1 asks for refits, 0 does not.
+ * out                     32 bytes are needed.
+ *
+ * It returns 0, or a refusal; of several that hold, the first in this order:
+ * 1 for the refit mark, 2 to 4, 9. Refused, it writes nothing. Bytes past the
+ * record stay as they were.
+ *
+ * The caller guarantees: out is valid for writing out_len bytes, and nobody
+ * else uses them during the call. No alignment is needed. NULL may go with 0.
+ */
+uint32_t salghemu_write_options(double thresh, double confidence,
+                                uint32_t max_iters, uint32_t min_inliers,
+                                uint8_t refit_mark,
+                                uint8_t *out, size_t out_len);
+
+/*
+ * Writes a mark, 32 bytes as the run reads them, to the front of out.
+ *
+ * x, y  where it is printed on the sheet.
+ * u, v  the pixel where the camera saw it.
+ * out   32 bytes are needed.
+ *
+ * It returns 0, or a refusal; of several that hold, the first in this order:
+ * 6, 9. Refused, it writes nothing. Bytes past the record stay as they were.
+ *
+ * The caller guarantees: out is valid for writing out_len bytes, and nobody
+ * else uses them during the call. No alignment is needed. NULL may go with 0.
+ */
+uint32_t salghemu_write_mark(double x, double y, double u, double v,
+                             uint8_t *out, size_t out_len);
+
+/*
+ * Writes a trial, 152 bytes as the run reads them, to the front of out.
+ *
+ * fit_mark    1 where the trial has a fit, else 0.
+ * refit_mark  1 where it has a refit too, else 0.
+ * fit, refit  nine numbers each; where the mark is 0 all are 0, and not -0.
+ * out         152 bytes are needed.
+ *
+ * It returns 0, or a refusal; of several that hold, the first in this order:
+ * 1 (a list of other than nine numbers, a mark other than 0 or 1, a refit
+ * without a fit, a marked number that is not finite, an unmarked one whose
+ * bits are not all zero), 9. Refused, it writes nothing. Bytes past the record
+ * stay as they were.
+ *
+ * The caller guarantees: fit and refit are valid for reading fit_count and
+ * refit_count doubles (a count is not in bytes), aligned as C aligns a double,
+ * and may be the same list; out is valid for writing out_len bytes, needs no
+ * alignment and overlaps neither of them; nobody changes any of them, or uses
+ * out, during the call. NULL may go with 0.
+ */
+uint32_t salghemu_write_trial(uint8_t fit_mark, uint8_t refit_mark,
+                              const double *fit, size_t fit_count,
+                              const double *refit, size_t refit_count,
+                              uint8_t *out, size_t out_len);
 
 #ifdef __cplusplus
 }

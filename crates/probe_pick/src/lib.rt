@@ -9,6 +9,7 @@ use pick::Opened;
 use records::RansacOptions;
 ghost use mathlib.Core.Path.{_≡_};
 ghost use Rattle.rule.specs.Lists.{filled};
+ghost use Rattle.records.specs.Marks.{numbersIn};
 ghost use Rattle.records.specs.Options.{usualOptions};
 ghost use Rattle.pick.specs.Opening.{openingAnswer, recordAnswer, viewOpened};
 ghost use Rattle.probe_pick.specs.Words.{optionWords};
@@ -120,4 +121,11 @@ pub extern "C" fn probe_winner_indices(state: &[u64], marks: &[f64], indices: &m
         Indexed::Written(n) => n as u64,
         Indexed::Refused(k) => 0x1_0000_0000 + k as u64,
     }
+}
+
+#[no_mangle]
+pub extern "C" fn probe_read_marks(bytes: &[u8], numbers: &mut [f64])
+    ensures { λ _. ⌜ now (numbers .exit) ≡ filled (numbersIn (now (bytes .entry))) (now (numbers .entry)) ⌝ }
+{
+    records::read_marks(bytes, numbers);
 }

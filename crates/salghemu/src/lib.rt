@@ -1,7 +1,9 @@
 // The whole run for a table's C program (document 01, 'Winner'): options, marks, stops and trials as
 // bytes, and two lent outputs. Everything is decoded once and the marks are tested once; then each
 // trial costs a walk over the marks for each model that is counted, and one over their squares. Roots
-// are taken for a trial that may win.
+// are taken for a trial that may win. The writers of records for C are in `writing`.
+mod writing;
+
 use pick::Best;
 use pick::Next;
 use pick::State;
@@ -9,6 +11,9 @@ use pick::Winner;
 use records::OptionsRead;
 use records::RansacOptions;
 use sheet::Model;
+pub use writing::salghemu_write_mark;
+pub use writing::salghemu_write_options;
+pub use writing::salghemu_write_trial;
 ghost use mathlib.Core.Path.{_≡_};
 ghost use Prim.Native.Nat.{_*_, _%_, _≤_};
 ghost use lib.ListN.{length};

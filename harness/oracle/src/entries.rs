@@ -37,7 +37,7 @@ fn tested(marks: &[f64]) -> Result<(), u32> {
 }
 
 /// 6 for a number that is not finite or of magnitude above 1e9.
-fn allowed(numbers: &[f64]) -> Result<(), u32> {
+pub(crate) fn allowed(numbers: &[f64]) -> Result<(), u32> {
     // A NaN fails this test too.
     if numbers.iter().all(|x| x.abs() <= 1e9) {
         Ok(())

@@ -19,6 +19,8 @@ mod sheet;
 pub mod sheet_cases;
 pub mod sheets;
 pub mod whole;
+pub mod writing;
+pub mod writing_cases;
 
 pub use numbers::{
     NUMBER, dlt_rank_ok, ensure_finite, quadratic, root, root_refusal, solve_quadratic_real,

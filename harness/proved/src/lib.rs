@@ -1,11 +1,13 @@
 //! The proved leaves and the sheet's entries, from the archive libprobe.a; the
-//! picker is in [`pick`], its measuring and scoring in [`scoring`].
+//! picker is in [`pick`], its measuring and scoring in [`scoring`], the writers
+//! of its records in [`writing`].
 //!
 //! Marks are one flat list, four numbers each. A side is 0 for the sheet and
 //! anything else for the pixels. A lent list is written from its front.
 
 pub mod pick;
 pub mod scoring;
+pub mod writing;
 
 mod c {
     unsafe extern "C" {

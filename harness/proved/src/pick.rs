@@ -1,5 +1,6 @@
 //! The proved picker: the whole run from the archive libsalghemu.a, and the
-//! opening, a trial and the winner's indices from libprobe_pick.a.
+//! opening, a trial, the winner's indices and the reader of marks from
+//! libprobe_pick.a.
 //!
 //! A state is 24 words, as `oracle::book::State::words` has them.
 
@@ -63,6 +64,12 @@ mod c {
             indices: *mut u32,
             indices_len: usize,
         ) -> u64;
+        pub unsafe fn probe_read_marks(
+            bytes: *const u8,
+            bytes_len: usize,
+            numbers: *mut f64,
+            numbers_len: usize,
+        );
     }
 }
 
@@ -196,4 +203,11 @@ pub fn winner_indices(state: &[u64], marks: &[f64], indices: &mut [u32]) -> u64 
             indices.len(),
         )
     }
+}
+
+/// The numbers of a file of marks, to the front of the lent list if it has room
+/// for all of them.
+pub fn read_marks(bytes: &[u8], numbers: &mut [f64]) {
+    // SAFETY: as above.
+    unsafe { c::probe_read_marks(of(bytes), bytes.len(), lent(numbers), numbers.len()) }
 }
