@@ -12,7 +12,7 @@ use lib.Seq.{take-at, take-add, drop-at, drop-cons, drop-drop, length-take-le}
 use lib.Ieee.Fits.{and-i, and-l, and-r}
 use Rattle.rule.specs.Lists.{every, firstParts, partsOf, forEach}
 use Rattle.fields.specs.Fields.{littleEndian, fieldsOf, longsOf, byteAt, zeroBytes, allBytes, bytesOf}
-use Rattle.fields.specs.Packing.{sizeOf, unpacked, fieldIn, packed}
+use Rattle.fields.specs.Packing.{sizeOf, unpacked, packed}
 use Rattle.fields.proofs.Writing.{bytes-wide}
 use Rattle.fields.proofs.Back.{spelled-back}
 
@@ -138,8 +138,8 @@ unpacked-even w (suc n) l = ap (λ rest. littleEndian (take w l) ∷ rest) (unpa
 
 -- ---- a field, by where its bytes stand
 
-pub field-placed : (layout l : List ℕ) (i : ℕ) → i < length layout → fieldIn layout l i ≡ littleEndian (take (getD layout i 0) (drop (sizeOf (take i layout)) l))
-unfolding fieldIn unpacked sizeOf
+pub field-placed : (layout l : List ℕ) (i : ℕ) → i < length layout → getD (unpacked layout l) i 0 ≡ littleEndian (take (getD layout i 0) (drop (sizeOf (take i layout)) l))
+unfolding unpacked sizeOf
 field-placed [] l i h = absurd (omega (arith, h))
 field-placed (w ∷ layout) l zero h = refl
 field-placed (w ∷ layout) l (suc i) h =

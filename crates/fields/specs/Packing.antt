@@ -2,7 +2,7 @@
 -- fields, and the bytes that put numbers there.
 use mathlib.Core.List.{List, [], _∷_, _++_}
 use Prim.Native.Nat.{ℕ, _+_}
-use lib.ListN.{getD, take, drop}
+use lib.ListN.{take, drop}
 use Rattle.fields.specs.Fields.{littleEndian, bytesOf}
 
 -- the bytes that the fields take together
@@ -14,10 +14,6 @@ sizeOf (w ∷ layout) = w + sizeOf layout
 unfoldable pub unpacked : (layout : List ℕ) → List ℕ → List ℕ
 unpacked [] l = []
 unpacked (w ∷ layout) l = littleEndian (take w l) ∷ unpacked layout (drop w l)
-
--- the number in the field at place i
-unfoldable pub fieldIn : (layout : List ℕ) → List ℕ → (i : ℕ) → ℕ
-fieldIn layout l i = getD (unpacked layout l) i 0
 
 -- the bytes that have these numbers in the fields
 unfoldable pub packed : (layout : List ℕ) → (numbers : List ℕ) → List ℕ

@@ -24,9 +24,7 @@ module _ {N A : Type 0} (f : Format N A) (n : N) (entry : List ℕ) where
 
   pub turned-down : {k : ℕ} → k ≡ firstFailed tests → (k ≡ 0 → ⊥) → Wrote k entry
   unfolding writerAnswer writerTests written
-  turned-down {k} e h =
-      let r : k ≡ firstFailed (tests ++ (room (sizeOf (f .layout)) (length entry) ∷ [])) = e ∙ one-failed tests _ (λ z. h (e ∙ z)) in
-      (r, kept (firstFailed (tests ++ (room (sizeOf (f .layout)) (length entry) ∷ []))) (filled (recordOf f n) entry) entry (λ z. h (r ∙ z)))
+  turned-down e h = let r = e ∙ one-failed tests _ (λ z. h (e ∙ z)) in (r, kept _ _ entry (λ z. h (r ∙ z)))
 
   module _ (above : T (numbered tests)) (passed : 0 ≡ firstFailed tests) where
     rest : firstFailed (room (sizeOf (f .layout)) (length entry) ∷ []) ≡ firstFailed (tests ++ (room (sizeOf (f .layout)) (length entry) ∷ []))
@@ -36,7 +34,7 @@ module _ {N A : Type 0} (f : Format N A) (n : N) (entry : List ℕ) where
     unfolding writerAnswer writerTests written
     cramped h =
         let r = too-small (sizeOf (f .layout)) (length entry) h ∙ rest in
-        (r, kept (firstFailed (tests ++ (room (sizeOf (f .layout)) (length entry) ∷ []))) (filled (recordOf f n) entry) entry (λ z. absurd (let e : _≡_ {A = ℕ} ROOM 0 = r ∙ z in omega (arith, e))))
+        (r, kept _ _ entry (λ z. absurd (let e : _≡_ {A = ℕ} ROOM 0 = r ∙ z in omega (arith, e))))
 
     pub wrote : sizeOf (f .layout) ≤ length entry → {exit : List ℕ} → exit ≡ filled (recordOf f n) entry → Wrote 0 exit
     unfolding writerAnswer writerTests written
