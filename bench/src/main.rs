@@ -7,6 +7,7 @@ mod roots;
 mod run;
 mod sheet;
 mod walk;
+mod write;
 
 use std::time::Instant;
 
@@ -38,4 +39,6 @@ fn main() {
     walk::run();
     println!();
     run::run();
+    println!();
+    write::run();
 }
