@@ -25,10 +25,10 @@ pub record Laws {N A : Type 0} (f : Format N A) : Type 0 where
   pub above-0 : T (ltb 0 (f .other-length))
   pub asks-above-0 : (n : N) → T (numbered (f .asks n))
   pub tests-above-0 : (fields : List ℕ) → T (numbered (f .tests fields))
-  pub fit : (n : N) → f .Held n → Fit (f .layout) (f .fields n)
-  pub asked : (n : N) → f .Held n → firstFailed (f .asks n) ≡ 0
+  pub fit : (n : N) → f .Representable n → Fit (f .layout) (f .fields n)
+  pub asked : (n : N) → f .Representable n → firstFailed (f .asks n) ≡ 0
   -- accepted numbers come back from their fields, and fields from their numbers
-  pub back : (n : N) → f .Held n → firstFailed (f .tests (f .fields n)) ≡ 0 → f .numbers (f .value (f .fields n)) ≡ n
+  pub back : (n : N) → f .Representable n → firstFailed (f .tests (f .fields n)) ≡ 0 → f .numbers (f .value (f .fields n)) ≡ n
   pub again : (fields : List ℕ) → Fit (f .layout) fields → firstFailed (f .tests fields) ≡ 0
       → (f .fields (f .numbers (f .value fields)) ≡ fields) × (firstFailed (f .asks (f .numbers (f .value fields))) ≡ 0)
 
@@ -48,7 +48,7 @@ module _ {N A : Type 0} (f : Format N A) (laws : Laws f) where
 
   -- ---- the record that packing gives, and its reader
 
-  module _ (n : N) (held : f .Held n) where
+  module _ (n : N) (held : f .Representable n) where
     record-size : length (recordOf f n) ≡ size
     unfolding recordOf
     record-size = packed-size (laws .fit n held)
@@ -66,13 +66,13 @@ module _ {N A : Type 0} (f : Format N A) (laws : Laws f) where
 
   -- ---- the three
 
-  numbers-of : (n : N) → f .Held n → firstFailed (f .tests (f .fields n)) ≡ 0 → numbersRead f (recordOf f n) ≡ gives n
+  numbers-of : (n : N) → f .Representable n → firstFailed (f .tests (f .fields n)) ≡ 0 → numbersRead f (recordOf f n) ≡ gives n
   unfolding numbersRead asNumbers
   numbers-of n held e =
       ap (asNumbers (f .numbers)) (record-read n held ∙ sym (decided-none (f .value (f .fields n)) (sym e)))
       ∙ ap gives (laws .back n held e)
 
-  back-read : (n : N) (entry : List ℕ) → f .Held n → writerAnswer f n entry ≡ 0 → numbersRead f (take size (written f n entry)) ≡ gives n
+  back-read : (n : N) (entry : List ℕ) → f .Representable n → writerAnswer f n entry ≡ 0 → numbersRead f (take size (written f n entry)) ≡ gives n
   unfolding writerAnswer writerTests
   back-read n entry held e =
       let ts = f .asks n ++ f .tests (f .fields n) in
@@ -102,7 +102,7 @@ module _ {N A : Type 0} (f : Format N A) (laws : Laws f) where
       let w = wrote f n entry (above n) (sym passed) fits refl in
       (sym (w .0), sym (w .1) ∙ ap (λ bs. filled bs entry) packs ∙ filled-is l entry (rw long fits))
 
-  module _ (n : N) (entry : List ℕ) (k : ℕ) (held : f .Held n) (some : k ≡ 0 → ⊥) where
+  module _ (n : N) (entry : List ℕ) (k : ℕ) (held : f .Representable n) (some : k ≡ 0 → ⊥) where
     reader-too : (k ≡ ROOM → ⊥) → writerAnswer f n entry ≡ k → numbersRead f (recordOf f n) ≡ refused k
     unfolding numbersRead asNumbers
     reader-too not-room e =

@@ -21,7 +21,7 @@ use Rattle.fields.specs.Fields.{doubleBytes}
 use Rattle.fields.specs.Packing.{sizeOf, packed}
 use Rattle.fields.proofs.Packing.{Fit, none, fit-length}
 use Rattle.writer.specs.Format.{recordOf, Faithful}
-use Rattle.writer.specs.Formats.{markLayout, markFrom, markHeld, markFormat}
+use Rattle.writer.specs.Formats.{markLayout, markFrom, markRepresentable, markFormat}
 use Rattle.writer.proofs.Answers.{Wrote, turned-down, cramped, wrote}
 use Rattle.writer.proofs.Bits.{both-true, numbers-back, fields-fit, bits-again}
 use Rattle.writer.proofs.Faith.{Laws, faithful}
@@ -32,8 +32,8 @@ pub mark-size : sizeOf (markFormat .layout) ≡ 32
 unfolding markFormat markLayout sizeOf
 mark-size = refl
 
-pub mark-held : (m : Mark) → T (fits binary64 (m .x)) → T (fits binary64 (m .y)) → T (fits binary64 (m .u)) → T (fits binary64 (m .v)) → markHeld m
-unfolding markHeld markNumbers every
+pub mark-held : (m : Mark) → T (fits binary64 (m .x)) → T (fits binary64 (m .y)) → T (fits binary64 (m .u)) → T (fits binary64 (m .v)) → markRepresentable m
+unfolding markRepresentable markNumbers every
 mark-held m p q r s =
     and-i (fits binary64 (m .x)) _ p (and-i (fits binary64 (m .y)) _ q (and-i (fits binary64 (m .u)) _ r (and-i (fits binary64 (m .v)) true s tt)))
 
@@ -50,9 +50,9 @@ module _ (m : Mark) where
   unfolding recordOf markFormat markLayout packed doubleBytes forEach markNumbers
   packs = refl
 
-  module _ (entry : List ℕ) (held : markHeld m) {k : ℕ} (checked : k ≡ firstFailed (marksTests (markNumbers m))) where
+  module _ (entry : List ℕ) (held : markRepresentable m) {k : ℕ} (checked : k ≡ firstFailed (marksTests (markNumbers m))) where
     here : k ≡ tests
-    unfolding markFormat markHeld
+    unfolding markFormat markRepresentable
     here = checked ∙ one-mark ∙ ap (λ l. firstFailed (point l ∷ [])) (sym (numbers-back (markNumbers m) held))
 
     above : T (numbered (markFormat .asks m ++ markFormat .tests (markFormat .fields m)))
@@ -82,8 +82,8 @@ four : (bits : List ℕ) → length bits ≡ 4 → markNumbers (markFrom bits) �
 unfolding markNumbers markFrom placesAt
 four bits size = ap (map (ofBits binary64)) (sym (one-by-one 4 0 bits 0 size))
 
-mark-back : (m : Mark) → markHeld m → markFrom (map (toBits binary64) (markNumbers m)) ≡ m
-unfolding markHeld markNumbers markFrom
+mark-back : (m : Mark) → markRepresentable m → markFrom (map (toBits binary64) (markNumbers m)) ≡ m
+unfolding markRepresentable markNumbers markFrom
 mark-back m held =
     ap (λ (l : List Float). record { x = getD l 0 nan; y = getD l 1 nan; u = getD l 2 nan; v = getD l 3 nan }) (numbers-back (markNumbers m) held)
 
@@ -95,7 +95,7 @@ mark-again bits fit h =
     ap (map (toBits binary64)) (four bits (fit-length fit)) ∙ bits-again 4 bits fit finite
 
 mark-laws : Laws markFormat
-unfolding markFormat markLayout markHeld markNumbers numbered point firstFailed
+unfolding markFormat markLayout markRepresentable markNumbers numbered point firstFailed
 mark-laws =
     record {
       above-0 = tt;

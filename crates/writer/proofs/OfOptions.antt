@@ -24,7 +24,7 @@ use Rattle.fields.proofs.Packing.{Fit, none, more, fit-length, fit-at}
 use Rattle.records.specs.Options.{optionsLayout, optionsSound, optionsFrom, thresh, confidence, iters, optionsTests}
 use Rattle.records.specs.declared.options.RansacOptions.{RansacOptions}
 use Rattle.writer.specs.Format.{recordOf, Faithful}
-use Rattle.writer.specs.Formats.{OptionNumbers, optionsNumbers, optionsFields, optionsHeld, optionsAsked, optionsFormat}
+use Rattle.writer.specs.Formats.{OptionNumbers, optionsNumbers, optionsFields, optionsRepresentable, optionsAsked, optionsFormat}
 use Rattle.writer.proofs.Answers.{Wrote, turned-down, cramped, wrote}
 use Rattle.writer.proofs.Bits.{both-true, bits-below, number-back, bits-back, finite-no-nan, above-no-nan}
 use Rattle.writer.proofs.Faith.{Laws, faithful}
@@ -150,8 +150,8 @@ module _ (f : List ℕ) (passed : firstFailed (optionsAsked f) ≡ 0) where
       both-true (lt zero′ (ofBits binary64 (getD f 1 0))) (lt (ofBits binary64 (getD f 1 0)) one)
       (not-false (lt zero′ (ofBits binary64 (getD f 1 0)) && lt (ofBits binary64 (getD f 1 0)) one) (first-passed (confidence (optionsFrom f)) _ tt (second .1) .0)) .0
 
-options-back : (n : OptionNumbers) → optionsHeld n → firstFailed (optionsAsked (optionsFields n)) ≡ 0 → optionsNumbers (optionsFrom (optionsFields n)) ≡ n
-unfolding optionsHeld optionsNumbers optionsFields
+options-back : (n : OptionNumbers) → optionsRepresentable n → firstFailed (optionsAsked (optionsFields n)) ≡ 0 → optionsNumbers (optionsFrom (optionsFields n)) ≡ n
+unfolding optionsRepresentable optionsNumbers optionsFields
 options-back n held passed =
     rw (from-fields n (held .0) (held .1), mark-kept (n .«refit_mark») (small-mark (optionsFields n) passed))
 
@@ -161,8 +161,8 @@ options-again f fit passed =
     rw (bits-back (getD f 0 0) (fit-at fit 0 (omega arith)) (finite-no-nan (ofBits binary64 (getD f 0 0)) (finite-thresh f passed)), bits-back (getD f 1 0) (fit-at fit 1 (omega arith)) (above-no-nan zero′ (ofBits binary64 (getD f 1 0)) (positive-confidence f passed)), mark-kept (getD f 4 0) (small-mark f passed))
     (ap (λ filler. getD f 0 0 ∷ getD f 1 0 ∷ getD f 2 0 ∷ getD f 3 0 ∷ getD f 4 0 ∷ filler ∷ []) (sym (no-filler f passed)) ∙ sym (one-by-one 6 0 f 0 (fit-length fit)))
 
-options-fit : (n : OptionNumbers) → optionsHeld n → Fit optionsLayout (optionsFields n)
-unfolding optionsHeld optionsLayout optionsFields
+options-fit : (n : OptionNumbers) → optionsRepresentable n → Fit optionsLayout (optionsFields n)
+unfolding optionsRepresentable optionsLayout optionsFields
 options-fit n held =
     let filler : 0 < 256 ^ 7 = omega arith in
     more (bits-below (n .thresh) (held .0)) (more (bits-below (n .confidence) (held .1)) (more (held .2) (more (held .3) (more (held .4) (more filler none)))))

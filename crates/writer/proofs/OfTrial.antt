@@ -28,7 +28,7 @@ use Rattle.fields.proofs.Packing.{Fit, none, more, fit-length, fit-taken, fit-l
 use Rattle.records.specs.Trial.{trialLayout, fitBits, refitBits, modelFrom, marked, marksFormed, numbersFormed, trialSound, trialFrom}
 use Rattle.records.proofs.Formed.{nine}
 use Rattle.writer.specs.Format.{recordOf, Faithful}
-use Rattle.writer.specs.Formats.{TrialNumbers, trialNumbers, trialFields, nineEach, trialHeld, trialFormat}
+use Rattle.writer.specs.Formats.{TrialNumbers, trialNumbers, trialFields, nineEach, trialRepresentable, trialFormat}
 use Rattle.writer.proofs.Answers.{Wrote, turned-down, cramped, wrote}
 use Rattle.writer.proofs.Bits.{both-true, numbers-back, fields-fit, bits-again, zeros, zero-numbers, zeros-again, every-map, bits-written}
 use Rattle.writer.proofs.Faith.{Laws, faithful}
@@ -260,8 +260,8 @@ numbers-of a b both k l i j d e p q = ap₂ (handed 1 1) (marked-back k i d) (ma
 sound-of : (f : List ℕ) → firstFailed (form f ∷ []) ≡ 0 → trialSound f ≡ true
 sound-of f h = not-false (trialSound f) (first-passed (form f) [] tt h .0)
 
-trial-back : (n : TrialNumbers) → trialHeld n → firstFailed (form (trialFields n) ∷ []) ≡ 0 → trialNumbers (trialFrom (trialFields n)) ≡ n
-unfolding trialHeld trialFrom marked trialFields
+trial-back : (n : TrialNumbers) → trialRepresentable n → firstFailed (form (trialFields n) ∷ []) ≡ 0 → trialNumbers (trialFrom (trialFields n)) ≡ n
+unfolding trialRepresentable trialFrom marked trialFields
 trial-back n h passed =
     let p = parts (trialFields n) (sound-of (trialFields n) passed) in
     let x = fit-there n (h .2) (h .3) in
@@ -315,8 +315,8 @@ nine-read unfitted = refl
 nine-read (fitted m) = refl
 nine-read (refitted m k) = refl
 
-trial-fit : (n : TrialNumbers) → trialHeld n → Fit trialLayout (trialFields n)
-unfolding trialHeld trialLayout trialFields
+trial-fit : (n : TrialNumbers) → trialRepresentable n → Fit trialLayout (trialFields n)
+unfolding trialRepresentable trialLayout trialFields
 trial-fit n h =
     let filler : 0 < 256 ^ 6 = omega arith in
     let fit = map (toBits binary64) (n .fit) in
@@ -326,8 +326,8 @@ trial-fit n h =
     let two = subst (λ (k : ℕ). Fit (replicate 9 8 ++ (replicate k 8 ++ [])) (fit ++ (refit ++ []))) (h .3) one in
     more (h .0) (more (h .1) (more filler (subst (λ (l : List ℕ). Fit (replicate 18 8) (fit ++ l)) (append-nil refit) two)))
 
-nine-held : (n : TrialNumbers) → trialHeld n → firstFailed (nineEach n ∷ []) ≡ 0
-unfolding trialHeld nineEach firstFailed
+nine-held : (n : TrialNumbers) → trialRepresentable n → firstFailed (nineEach n ∷ []) ≡ 0
+unfolding trialRepresentable nineEach firstFailed
 nine-held n h = rw (eq-eqb (length (n .fit)) 9 (h .2), eq-eqb (length (n .refit)) 9 (h .3))
 
 trial-laws : Laws trialFormat

@@ -26,8 +26,8 @@ pub record Format (N A : Type 0) : Type 1 where
   pub fields : N → List ℕ
   -- what a writer has to ask besides, for the numbers to have fields at all
   pub asks : N → List Test
-  -- Each number is of its type, and as many are handed over as the record has.
-  pub Held : N → Type 0
+  -- what a caller can hand over for a record: each number of its type, and as many as the record has
+  pub Representable : N → Type 0
 
 -- ---- the reader
 
@@ -69,10 +69,10 @@ written f n entry = ifPassed (writerAnswer f n entry) (filled (recordOf f n) ent
 
 pub record Faithful {N A : Type 0} (f : Format N A) : Type 0 where
   -- 'What it writes reads back to the same numbers': all that are accepted, in every buffer with room, from its first bytes.
-  pub reads-back : (n : N) (entry : List ℕ) → f .Held n → writerAnswer f n entry ≡ 0 → numbersRead f (take (sizeOf (f .layout)) (written f n entry)) ≡ gives n
+  pub reads-back : (n : N) (entry : List ℕ) → f .Representable n → writerAnswer f n entry ≡ 0 → numbersRead f (take (sizeOf (f .layout)) (written f n entry)) ≡ gives n
   -- 'every accepted record is what the writer makes of its numbers': handed what was read, it accepts and writes exactly those bytes.
   pub made : (l : List ℕ) (n : N) (entry : List ℕ) → T (allBytes l) → numbersRead f l ≡ gives n → sizeOf (f .layout) ≤ length entry
       → (writerAnswer f n entry ≡ 0) × (written f n entry ≡ l ++ drop (length l) entry)
   -- 'It turns down what the reader would': with k where the reader refuses with k what packing gives; 9 is the writer's alone.
-  pub turns-down : (n : N) (entry : List ℕ) (k : ℕ) → f .Held n → (k ≡ 0 → ⊥) → (k ≡ ROOM → ⊥)
+  pub turns-down : (n : N) (entry : List ℕ) (k : ℕ) → f .Representable n → (k ≡ 0 → ⊥) → (k ≡ ROOM → ⊥)
       → (writerAnswer f n entry ≡ k → numbersRead f (recordOf f n) ≡ refused k) × (numbersRead f (recordOf f n) ≡ refused k → writerAnswer f n entry ≡ k)

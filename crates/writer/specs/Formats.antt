@@ -48,8 +48,8 @@ unfoldable pub optionsFields : OptionNumbers → List ℕ
 optionsFields n =
     toBits binary64 (n .thresh) ∷ toBits binary64 (n .confidence) ∷ n .«max_iters» ∷ n .«min_inliers» ∷ n .«refit_mark» ∷ 0 ∷ []
 
-unfoldable pub optionsHeld : OptionNumbers → Type 0
-optionsHeld n =
+unfoldable pub optionsRepresentable : OptionNumbers → Type 0
+optionsRepresentable n =
     Double (n .thresh) × Double (n .confidence) × (n .«max_iters» < 0x1_0000_0000) × (n .«min_inliers» < 0x1_0000_0000) × (n .«refit_mark» < 256)
 
 unfoldable pub optionsAsked : List ℕ → List Test
@@ -65,7 +65,7 @@ optionsFormat =
       numbers = optionsNumbers;
       fields = optionsFields;
       asks = λ n. [];
-      Held = optionsHeld;
+      Representable = optionsRepresentable;
     }
 
 -- ---- a mark: 6. Its reader takes a list of marks; here it has one, and any other length is 5.
@@ -82,8 +82,8 @@ markFrom f =
       v = ofBits binary64 (getD f 3 0);
     }
 
-unfoldable pub markHeld : Mark → Type 0
-markHeld m = T (every (fits binary64) (markNumbers m))
+unfoldable pub markRepresentable : Mark → Type 0
+markRepresentable m = T (every (fits binary64) (markNumbers m))
 
 unfoldable pub markFormat : Format Mark Mark
 markFormat =
@@ -95,7 +95,7 @@ markFormat =
       numbers = λ m. m;
       fields = λ m. map (toBits binary64) (markNumbers m);
       asks = λ m. [];
-      Held = markHeld;
+      Representable = markRepresentable;
     }
 
 -- ---- a trial: 1
@@ -124,8 +124,8 @@ trialFields n = n .«fit_mark» ∷ n .«refit_mark» ∷ 0 ∷ (map (toBits bin
 unfoldable pub nineEach : TrialNumbers → Test
 nineEach n = record { fails = not (eqb (length (n .fit)) 9 && eqb (length (n .refit)) 9); number = RECORD }
 
-unfoldable pub trialHeld : TrialNumbers → Type 0
-trialHeld n =
+unfoldable pub trialRepresentable : TrialNumbers → Type 0
+trialRepresentable n =
     (n .«fit_mark» < 256) × (n .«refit_mark» < 256) × (length (n .fit) ≡ 9) × (length (n .refit) ≡ 9) × T (every (fits binary64) (n .fit)) × T (every (fits binary64) (n .refit))
 
 unfoldable pub trialFormat : Format TrialNumbers (Trial Model)
@@ -138,5 +138,5 @@ trialFormat =
       numbers = trialNumbers;
       fields = trialFields;
       asks = λ n. nineEach n ∷ [];
-      Held = trialHeld;
+      Representable = trialRepresentable;
     }
