@@ -3,7 +3,7 @@
 use mathlib.Core.Path.{_≡_, refl}
 use mathlib.Core.Bool.{Bool, true, false, not, _||_, cond}
 use mathlib.Core.List.{List, [], _∷_}
-use Prim.Native.Nat.{ℕ, zero, suc, _+_, _*_, _^_, _≤_, zero-le}
+use Prim.Native.Nat.{ℕ, zero, suc, _+_, _*_, _^_, _≤_}
 use native.Mathlib.Nat.{le-trans, zero-lt-suc}
 use native.Mathlib.Omega.{arith}
 use borrow.Author.Tests.{ne-eqb}
@@ -15,11 +15,12 @@ use lib.Ieee.Fits.{round-is, div-fits}
 use lib.Ieee.Back.{round-whole}
 use lib.Ieee.Positive.{positive, positive-of-value}
 use Rattle.rule.specs.Arith.{_⊕_, _⊗_, _⊘_, clear}
-use Rattle.rule.specs.Lists.{countOf, sumFrom, those}
+use Rattle.rule.specs.Lists.{sumFrom, those}
 use Rattle.rule.proofs.Tests.{clash}
+use Rattle.rule.proofs.Lists.{count-most}
 use Rattle.root.specs.Root.{hasRoot, rootOf}
 use Rattle.root.proofs.Correct.{root-correct}
-use Rattle.numbers.specs.Constants.{zero′, infinity}
+use Rattle.numbers.specs.Constants.{zero′}
 use Rattle.book.specs.Score.{close, countIn, square, squaresIn, rmsOf, rmsIn}
 
 pub clear-not-nan : (x : Float) → T (clear x) → T (not (isNan x))
@@ -180,13 +181,8 @@ rms-of (suc n) squares h c =
     rw (eqb·suc-zero n) (root-clear (squares ⊘ ofInt binary64 (pos (suc n))) (div-fits binary64 _ _) (div-clear squares (ofInt binary64 (pos (suc n))) c (count-positive n h)))
 
 pub count-within : (thresh : Float) (ds : List Float) → countIn thresh ds ≤ length ds
-unfolding countIn countOf
-count-within thresh [] = zero-le
-count-within thresh (d ∷ ds) = go (close thresh d) (count-within thresh ds)
-  where
-    go : (b : Bool) → countOf (close thresh) ds ≤ length ds → cond b 1 0 + countOf (close thresh) ds ≤ suc (length ds)
-    go true h = omega arith
-    go false h = omega arith
+unfolding countIn
+count-within thresh ds = count-most (close thresh) ds
 
 -- Of any distances, whatever the threshold. Only a list of some 2 ^ 1024 of them, whose number has no finite double, could have a NaN: 2 ^ 53 is
 -- far above what a program can hold.

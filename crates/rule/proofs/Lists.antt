@@ -4,8 +4,8 @@ use mathlib.Core.Path.{_≡_, refl, sym, ap, ap₂, _∙_}
 use mathlib.Core.Bool.{Bool, true, false, cond}
 use mathlib.Core.Logic.{⊎-elim}
 use mathlib.Core.List.{List, [], _∷_, _++_, map, append-assoc, append-nil}
-use Prim.Native.Nat.{ℕ, zero, suc, _+_, _-_, _*_, _≤_, _<_}
-use native.Mathlib.Nat.{zero-add, add-assoc, add-comm, le-add-right, mul-zero, one-mul, mul-suc, mul-le-mul-left, le-of-lt, le-of-eq}
+use Prim.Native.Nat.{ℕ, zero, suc, _+_, _-_, _*_, _≤_, _<_, zero-le}
+use native.Mathlib.Nat.{zero-add, add-zero, add-assoc, add-comm, le-add-right, mul-zero, one-mul, mul-suc, mul-le-mul-left, le-of-lt, le-of-eq}
 use native.Mathlib.Numerals.{add-one}
 use native.Mathlib.Omega.{arith}
 use borrow.Author.Tests.{lt-ltb, le-ltb}
@@ -92,6 +92,37 @@ module _ {A : Type 0} (test : A → Bool) (l : List A) (d : A) where
   pub places-end : (k i : ℕ) → length l ≤ i → placesFrom k test (drop i l) ≡ []
   unfolding placesFrom
   places-end k i h = rw (drop-of-length-le l h)
+
+pub count-most : {A : Type 0} (test : A → Bool) (l : List A) → countOf test l ≤ length l
+unfolding countOf
+count-most test [] = zero-le
+count-most test (a ∷ l) = go (test a) (count-most test l)
+  where
+    go : (b : Bool) → countOf test l ≤ length l → cond b 1 0 + countOf test l ≤ suc (length l)
+    go true h = omega arith
+    go false h = omega arith
+
+-- a count of some elements of a list: what is counted up to place i, and what is still owed
+module _ {A : Type 0} (test : A → Bool) (l : List A) (d : A) where
+  pub record Counted (count i : ℕ) : Type 0 where
+    pub small : count ≤ i
+    pub owed : count + countOf test (drop i l) ≡ countOf test l
+
+  pub counted-none : Counted 0 0
+  counted-none = record { small = zero-le; owed = zero-add (countOf test l) }
+
+  pub counted-all : {i count : ℕ} → length l ≤ i → Counted count i → count ≡ countOf test l
+  counted-all {i} {count} g k = sym (add-zero count) ∙ ap (λ x. count + x) (sym (count-end test l d i g)) ∙ k .owed
+
+  pub counted-next : {i k r : ℕ} {b : Bool} → i < length l → b ≡ test (getD l i d) → (r ≡ cond b 1 0) × (r ≤ 1) → Counted k i → Counted (k + r) (i + 1)
+  counted-next {i} {k} {r} h answer e c =
+      record {
+        small = let s = c .small in let t = e .1 in omega (arith, s, t);
+        owed =
+            add-assoc k r (countOf test (drop (i + 1) l))
+            ∙ ap (λ x. k + x) (ap (λ x. x + countOf test (drop (i + 1) l)) (e .0 ∙ ap (λ x. cond x 1 0) answer) ∙ sym (count-next test l d i h))
+            ∙ c .owed;
+      }
 
 pub places-count : {A : Type 0} (test : A → Bool) (k : ℕ) (l : List A) → length (placesFrom k test l) ≡ countOf test l
 unfolding placesFrom countOf

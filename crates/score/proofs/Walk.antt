@@ -1,9 +1,8 @@
 -- A walk over the squares of distances: what is counted, summed or written up to place i, and what is still owed. Assumes nothing.
-use mathlib.Core.Path.{_≡_, refl, sym, ap, subst, _∙_}
+use mathlib.Core.Path.{_≡_, refl, sym, ap, _∙_}
 use mathlib.Core.Bool.{Bool, true, false, cond, _||_}
 use mathlib.Core.List.{List, [], _∷_, _++_, map, append-assoc, append-nil}
 use Prim.Native.Nat.{ℕ, suc, _+_, _≤_, _<_}
-use native.Mathlib.Nat.{zero-add, add-zero, add-assoc}
 use native.Mathlib.Numerals.{add-one}
 use native.Mathlib.Omega.{arith}
 use borrow.Author.Tests.{lt-ltb, le-ltb, ne-eqb}
@@ -11,10 +10,10 @@ use lib.Dec.{ltb}
 use lib.ListN.{length, getD, drop, set, length-map, List·getD-map, length-append, length-drop}
 use lib.Seq.{drop-cons, set-append-seam}
 use lib.IntN.{pos}
-use lib.Ieee.{Float, nan, binary64, ofBits, ofInt, le}
+use lib.Ieee.{Float, nan, binary64, ofInt, le}
 use Rattle.rule.specs.Arith.{_⊕_, _⊗_, _⊘_}
-use Rattle.rule.specs.Lists.{countOf, those, sumFrom, placesFrom}
-use Rattle.rule.proofs.Lists.{count-next, count-end, those-next, those-end, places-next, places-end, places-count}
+use Rattle.rule.specs.Lists.{those, sumFrom, placesFrom}
+use Rattle.rule.proofs.Lists.{Counted, counted-none, counted-next, counted-all, those-next, those-end, places-next, places-end, places-count}
 use Rattle.rule.proofs.Tests.{clash, or-true}
 use Rattle.root.specs.Root.{rootOf}
 use Rattle.numbers.specs.Constants.{zero′, infinity}
@@ -22,28 +21,6 @@ use Rattle.book.specs.Score.{close, countIn, square, squaresIn, rmsOf}
 use Rattle.score.specs.Places.{indicesIn, cramped, indexed, indexCount}
 use Rattle.score.specs.Limits.{Settles, surely, possibly, Tallied}
 use Rattle.score.specs.declared.Limits.{Limits}
-
--- a count of some elements of a list: what is counted up to place i, and what is still owed
-module _ {A : Type 0} (test : A → Bool) (l : List A) (d : A) where
-  pub record Counted (count i : ℕ) : Type 0 where
-    pub small : count ≤ i
-    pub owed : count + countOf test (drop i l) ≡ countOf test l
-
-  pub counted-none : Counted 0 0
-  counted-none = record { small = Prim.Native.Nat.zero-le; owed = zero-add (countOf test l) }
-
-  pub counted-all : {i count : ℕ} → length l ≤ i → Counted count i → count ≡ countOf test l
-  counted-all {i} {count} g k = sym (add-zero count) ∙ ap (λ x. count + x) (sym (count-end test l d i g)) ∙ k .owed
-
-  pub counted-next : {i k r : ℕ} {b : Bool} → i < length l → b ≡ test (getD l i d) → (r ≡ cond b 1 0) × (r ≤ 1) → Counted k i → Counted (k + r) (i + 1)
-  counted-next {i} {k} {r} h answer e c =
-      record {
-        small = let s = c .small in let t = e .1 in omega (arith, s, t);
-        owed =
-            add-assoc k r (countOf test (drop (i + 1) l))
-            ∙ ap (λ x. k + x) (ap (λ x. x + countOf test (drop (i + 1) l)) (e .0 ∙ ap (λ x. cond x 1 0) answer) ∙ sym (count-next test l d i h))
-            ∙ c .owed;
-      }
 
 -- nothing is written for over 2,000 distances
 pub too-many : (thresh : Float) (ds : List Float) (entry : List ℕ) → 2000 < length ds → (0 ≡ indexCount thresh ds entry) × (entry ≡ indexed thresh ds entry)
