@@ -1,6 +1,7 @@
 // The cases of document 01, 'Sheets to try' and 'Refusals', of the leaves and of a sheet's geometry,
 // and some traps beside them: each with what it answers, doubles as 16 hexadecimal digits. The file
-// `stdout` has the answers that 01 gives. Those of the picker are run by the comparison with the Rust.
+// `stdout` has the answers that 01 gives, and `beyond` by document 02, order 2. Those of the picker are
+// run by the comparison with the Rust.
 use libc::STDOUT_FILENO;
 use line::Collinear;
 use numbers::Quadratic;
@@ -185,13 +186,29 @@ fn show_rows(name: &[u8], marks: [f64; 16], n: usize, room: usize)
     print(b"\n");
 }
 
-fn show_distance(name: &[u8], h: Model, m: Mark) {
-    print(name);
+fn print_distance(h: Model, m: Mark) {
     let answer = sheet::distance(h, m);
     match answer {
         Measured::Distance(d) => print_double(d),
+        Measured::Beyond => print(b" beyond"),
         Measured::Refused(k) => print_refused(k),
     }
+}
+
+fn show_distance(name: &[u8], h: Model, m: Mark) {
+    print(name);
+    print_distance(h, m);
+    print(b"\n");
+}
+
+// The five marks of 01's square, the last printed three too far down.
+fn show_square(name: &[u8], h: Model) {
+    print(name);
+    print_distance(h, at(0.0, 0.0, 0.0, 0.0));
+    print_distance(h, at(100.0, 0.0, 100.0, 0.0));
+    print_distance(h, at(100.0, 100.0, 100.0, 100.0));
+    print_distance(h, at(0.0, 100.0, 0.0, 100.0));
+    print_distance(h, at(50.0, 50.0, 50.0, 53.0));
     print(b"\n");
 }
 
@@ -328,7 +345,6 @@ fn model(h5: f64, h6: f64, h7: f64, h8: f64) -> Model {
 fn distances() {
     let middle = at(50.0, 50.0, 50.0, 53.0);
     let wide = at(1e9, 1e9, 0.0, 2e9);
-    let far = at(1e9, 1e9, 0.0, 0.0);
     let none = 0.0 / 0.0;
     show_distance(
         b"distance under I of (50,50) at pixel (50,53):",
@@ -337,15 +353,9 @@ fn distances() {
     );
     show_distance(b"distance with h5 = 3:", model(3.0, 0.0, 0.0, 1.0), middle);
     show_distance(
-        b"distance with h8 = -1:",
-        model(0.0, 0.0, 0.0, -1.0),
+        b"distance with h5 = 1e200:",
+        model(1e200, 0.0, 0.0, 1.0),
         middle,
-    );
-    show_distance(b"distance with s = 0:", model(0.0, 0.0, 0.0, 0.0), middle);
-    show_distance(
-        b"distance with s a NaN:",
-        model(0.0, 1e308, -1e308, 1.0),
-        far,
     );
     show_distance(
         b"distance with h8 a NaN, and v = 2e9:",
@@ -353,6 +363,33 @@ fn distances() {
         wide,
     );
     show_distance(b"distance with v = 2e9:", model(0.0, 0.0, 0.0, 1.0), wide);
+}
+
+fn horizons() {
+    let far = at(1e9, 1e9, 0.0, 0.0);
+    show_square(b"distances of the square:", model(0.0, 0.0, 0.0, 1.0));
+    show_square(
+        b"distances of the square with h8 = -1:",
+        model(0.0, 0.0, 0.0, -1.0),
+    );
+    show_square(
+        b"distances of the square with s = 50 - x:",
+        model(0.0, -1.0, 0.0, 50.0),
+    );
+    show_square(
+        b"distances of the square with s = 0:",
+        model(0.0, 0.0, 0.0, 0.0),
+    );
+    show_distance(
+        b"distance with s a NaN:",
+        model(0.0, 1e308, -1e308, 1.0),
+        far,
+    );
+    show_distance(
+        b"distance with s infinite:",
+        model(0.0, 1e300, 0.0, 1.0),
+        far,
+    );
 }
 
 fn main() {
@@ -363,4 +400,5 @@ fn main() {
     normalisings();
     rows();
     distances();
+    horizons();
 }

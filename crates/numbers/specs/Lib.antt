@@ -2,3 +2,4 @@ pub mod Constants
 pub mod Finite
 pub mod Quadratic
 pub mod Rank
+pub mod Measure

@@ -6,6 +6,7 @@ use lib.ListN.{length, getD}
 use lib.Ieee.{Float, nan}
 use Rattle.rule.specs.Answer.{Answer, refused, gives}
 use Rattle.rule.specs.Lists.{forEach}
+use Rattle.numbers.specs.Measure.{Measure, beyond, distance}
 use Rattle.sheet.specs.declared.marks.Side.{Side}
 use Rattle.sheet.specs.declared.marks.Side.the-variants.{Sheet, Pixel}
 use Rattle.sheet.specs.declared.model.Projection.{Projection}
@@ -26,10 +27,17 @@ unfoldable pub placeOf : ℕ → Answer (List Float) → Float
 placeOf i (refused k) = nan
 placeOf i (gives l) = getD l i nan
 
--- the value, or a NaN
-unfoldable pub valueOf : Answer Float → Float
+-- 0 where there is a distance, 256 where the mark is beyond, or the refusal's number, which is below 256
+unfoldable pub measureTold : Answer Measure → ℕ
+measureTold (refused k) = k
+measureTold (gives beyond) = 256
+measureTold (gives (distance d)) = 0
+
+-- the distance, or a NaN where there is none
+unfoldable pub valueOf : Answer Measure → Float
 valueOf (refused k) = nan
-valueOf (gives y) = y
+valueOf (gives beyond) = nan
+valueOf (gives (distance d)) = d
 
 -- no, yes, or the refusal's number, which is above 1
 unfoldable pub toldOf : Answer Bool → ℕ

@@ -9,10 +9,11 @@ use sheet::Model;
 use sheet::Point;
 use sheet::Side;
 ghost use mathlib.Core.Path.{_≡_};
-ghost use Rattle.sheet.specs.Distance.{projectionOf, distanceOf, distanceAnswer};
+ghost use Rattle.rule.specs.Answer.{gives};
+ghost use Rattle.sheet.specs.Distance.{projectionOf, measureOf, distanceAnswer, viewMeasured};
 ghost use Rattle.line.specs.Collinear.{collinearAnswer};
 ghost use Rattle.homography.specs.Rows.{Rowing};
-ghost use Rattle.probe.specs.Flat.{refusalOf, valueOf, toldOf, sideOf, partOf};
+ghost use Rattle.probe.specs.Flat.{measureTold, valueOf, toldOf, sideOf, partOf};
 ghost use Rattle.probe.specs.Plain.{modelOf, markOf, pointOf, Written, MatrixEntry};
 
 fn side_of(side: u32) -> Side
@@ -70,8 +71,33 @@ pub extern "C" fn probe_dlt_rows(marks: &[f64], rows: &mut [f64]) -> u32
     homography::dlt_rows(marks, rows)
 }
 
+// What stands for a mark that is beyond: no refusal has this number.
+const BEYOND: u32 = 256;
+
+// 0 where there is a distance, `BEYOND`, or the refusal's number.
+fn told(answer: Measured) -> u32
+    ensures { λ r. ⌜ r ≡ measureTold (viewMeasured answer) ⌝ }
+{
+    match answer {
+        Measured::Distance(d) => 0,
+        Measured::Beyond => BEYOND,
+        Measured::Refused(k) => k,
+    }
+}
+
+// The distance, or a NaN where there is none.
+fn value(answer: Measured) -> f64
+    ensures { λ r. ⌜ r ≡ valueOf (viewMeasured answer) ⌝ }
+{
+    match answer {
+        Measured::Distance(d) => d,
+        Measured::Beyond => none(),
+        Measured::Refused(k) => none(),
+    }
+}
+
 #[no_mangle]
-pub extern "C" fn probe_distance_refusal(
+pub extern "C" fn probe_distance_told(
     h0: f64,
     h1: f64,
     h2: f64,
@@ -86,7 +112,7 @@ pub extern "C" fn probe_distance_refusal(
     u: f64,
     v: f64,
 ) -> u32
-    ensures { λ r. ⌜ r ≡ refusalOf (distanceAnswer (modelOf h0 h1 h2 h3 h4 h5 h6 h7 h8) (markOf x y u v)) ⌝ }
+    ensures { λ r. ⌜ r ≡ measureTold (distanceAnswer (modelOf h0 h1 h2 h3 h4 h5 h6 h7 h8) (markOf x y u v)) ⌝ }
 {
     let h = Model {
         h0,
@@ -99,11 +125,7 @@ pub extern "C" fn probe_distance_refusal(
         h7,
         h8,
     };
-    let answer = sheet::distance(h, Mark { x, y, u, v });
-    match answer {
-        Measured::Distance(d) => 0,
-        Measured::Refused(k) => k,
-    }
+    told(sheet::distance(h, Mark { x, y, u, v }))
 }
 
 #[no_mangle]
@@ -135,11 +157,39 @@ pub extern "C" fn probe_distance(
         h7,
         h8,
     };
-    let answer = sheet::distance(h, Mark { x, y, u, v });
-    match answer {
-        Measured::Distance(d) => d,
-        Measured::Refused(k) => none(),
-    }
+    value(sheet::distance(h, Mark { x, y, u, v }))
+}
+
+#[no_mangle]
+pub extern "C" fn probe_residual_told(
+    h0: f64,
+    h1: f64,
+    h2: f64,
+    h3: f64,
+    h4: f64,
+    h5: f64,
+    h6: f64,
+    h7: f64,
+    h8: f64,
+    x: f64,
+    y: f64,
+    u: f64,
+    v: f64,
+) -> u32
+    ensures { λ r. ⌜ r ≡ measureTold (gives (measureOf (modelOf h0 h1 h2 h3 h4 h5 h6 h7 h8) (markOf x y u v))) ⌝ }
+{
+    let h = Model {
+        h0,
+        h1,
+        h2,
+        h3,
+        h4,
+        h5,
+        h6,
+        h7,
+        h8,
+    };
+    told(sheet::residual(h, Mark { x, y, u, v }))
 }
 
 #[no_mangle]
@@ -158,7 +208,7 @@ pub extern "C" fn probe_residual(
     u: f64,
     v: f64,
 ) -> f64
-    ensures { λ r. ⌜ r ≡ distanceOf (modelOf h0 h1 h2 h3 h4 h5 h6 h7 h8) (markOf x y u v) ⌝ }
+    ensures { λ r. ⌜ r ≡ valueOf (gives (measureOf (modelOf h0 h1 h2 h3 h4 h5 h6 h7 h8) (markOf x y u v))) ⌝ }
 {
     let h = Model {
         h0,
@@ -171,7 +221,7 @@ pub extern "C" fn probe_residual(
         h7,
         h8,
     };
-    sheet::residual(h, Mark { x, y, u, v })
+    value(sheet::residual(h, Mark { x, y, u, v }))
 }
 
 #[no_mangle]

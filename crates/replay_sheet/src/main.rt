@@ -142,11 +142,19 @@ fn mark(record: &[u8]) -> Mark {
     }
 }
 
+// Word 116 is the distance; where the mark is beyond it is 0, and word 117 is 1.
 fn distance_agrees(record: &[u8]) -> bool {
     let refusal = fields::long_at(record, 4);
     let answer = sheet::distance(model(record), mark(record));
     match answer {
-        Measured::Distance(d) => refusal == 0 && tally::same(d, fields::double_at(record, 116)),
+        Measured::Distance(d) => {
+            refusal == 0
+                && fields::long_at(record, 117) == 0
+                && tally::same(d, fields::double_at(record, 116))
+        }
+        Measured::Beyond => {
+            refusal == 0 && fields::long_at(record, 117) == 1 && fields::long_at(record, 116) == 0
+        }
         Measured::Refused(k) => refusal == k as u64,
     }
 }

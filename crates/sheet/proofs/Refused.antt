@@ -14,7 +14,7 @@ use Rattle.rule.proofs.Order.{numbered, all-passed, one-failed}
 use Rattle.numbers.specs.Constants.{farthest}
 use Rattle.numbers.specs.Finite.{allFinite}
 use Rattle.sheet.specs.Marks.{markNumbers, shape, point, allWithin, marksTests}
-use Rattle.sheet.specs.Distance.{modelNumbers, model, distanceTests, distanceOf, distanceAnswer}
+use Rattle.sheet.specs.Distance.{modelNumbers, model, distanceTests, measureOf, distanceAnswer}
 use Rattle.sheet.specs.declared.marks.Mark.{Mark}
 use Rattle.sheet.specs.declared.model.Model.{Model}
 
@@ -62,6 +62,6 @@ module _ (h : Model) (m : Mark) where
   unfolding distanceAnswer decided firstFailed distanceTests model point
   mark-refused f g = rw (f, g)
 
-  pub measured : allFinite (modelNumbers h) ≡ true → allWithin farthest (markNumbers m) ≡ true → gives (distanceOf h m) ≡ distanceAnswer h m
+  pub measured : allFinite (modelNumbers h) ≡ true → allWithin farthest (markNumbers m) ≡ true → gives (measureOf h m) ≡ distanceAnswer h m
   unfolding distanceAnswer decided firstFailed distanceTests model point
   measured f g = rw (f, g)

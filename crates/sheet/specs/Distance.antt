@@ -1,4 +1,5 @@
--- Document 01, 'Distance': the projection by a homography, and the distance of a mark under it. (In the terms of the field, the reprojection residual.)
+-- Document 01, 'Distance', and document 02, order 2: the projection by a homography, and the distance of a mark under it, or that the mark is beyond. (In the
+-- terms of the field, the reprojection residual.)
 use mathlib.Core.Bool.{Bool, not, cond}
 use mathlib.Core.List.{List, [], _∷_}
 use lib.Ieee.{Float, lt, le}
@@ -7,8 +8,9 @@ use Rattle.rule.specs.Answer.{Answer, refused, gives}
 use Rattle.rule.specs.Order.{Test, firstFailed, decided}
 use Rattle.rule.specs.Arith.{_⊕_, _⊗_, _⊘_}
 use Rattle.root.specs.Root.{rootOf}
-use Rattle.numbers.specs.Constants.{zero′, infinity}
+use Rattle.numbers.specs.Constants.{zero′}
 use Rattle.numbers.specs.Finite.{allFinite}
+use Rattle.numbers.specs.Measure.{Measure, beyond, distance, isBeyond, asDistance}
 use Rattle.sheet.specs.Marks.{pointOf, squaredApart, markNumbers, point}
 use Rattle.sheet.specs.declared.marks.Mark.{Mark}
 use Rattle.sheet.specs.declared.marks.Point.{Point}
@@ -16,7 +18,7 @@ use Rattle.sheet.specs.declared.marks.Side.the-variants.{Sheet, Pixel}
 use Rattle.sheet.specs.declared.model.Model.{Model}
 use Rattle.sheet.specs.declared.model.Projection.{Projection}
 use Rattle.sheet.specs.declared.model.Measured.{Measured}
-use Rattle.sheet.specs.declared.model.Measured.the-variants.{Distance, Refused}
+use Rattle.sheet.specs.declared.model.Measured.the-variants.{Distance, Beyond, Refused}
 
 unfoldable pub modelNumbers : Model → List Float
 modelNumbers h = h .h0 ∷ h .h1 ∷ h .h2 ∷ h .h3 ∷ h .h4 ∷ h .h5 ∷ h .h6 ∷ h .h7 ∷ h .h8 ∷ []
@@ -30,12 +32,19 @@ projectionOf h p =
       at = record { x = (h .h0 ⊗ p .x ⊕ h .h1 ⊗ p .y ⊕ h .h2) ⊘ s; y = (h .h3 ⊗ p .x ⊕ h .h4 ⊗ p .y ⊕ h .h5) ⊘ s };
     }
 
--- Infinite unless s > 0, so also where s is a NaN. Else the root of the squared distance of the mapped point to the mark's pixel; where that is
--- a NaN, so is the distance.
-unfoldable pub distanceOf : Model → Mark → Float
-distanceOf h m =
+-- Beyond unless s > 0, so also where s is a NaN. Else the root of the squared distance of the mapped point to the mark's pixel; where that is a NaN, so is
+-- the distance.
+unfoldable pub measureOf : Model → Mark → Measure
+measureOf h m =
     let to = projectionOf h (pointOf Sheet m) in
-    cond (lt zero′ (to .s)) (rootOf (squaredApart (to .at) (pointOf Pixel m))) infinity
+    cond (lt zero′ (to .s)) (distance (rootOf (squaredApart (to .at) (pointOf Pixel m)))) beyond
+
+unfoldable pub beyondUnder : Model → Mark → Bool
+beyondUnder h m = isBeyond (measureOf h m)
+
+-- 01's distance: infinite unless s > 0
+unfoldable pub distanceOf : Model → Mark → Float
+distanceOf h m = asDistance (measureOf h m)
 
 -- The mark lies within the threshold under the model: in the terms of the field, it is an inlier. A NaN is not within it.
 unfoldable pub inlier : Model → Float → Mark → Bool
@@ -50,10 +59,11 @@ model h = record { fails = not (allFinite (modelNumbers h)); number = RECORD }
 unfoldable pub distanceTests : Model → Mark → List Test
 distanceTests h m = model h ∷ point (markNumbers m) ∷ []
 
-unfoldable pub distanceAnswer : Model → Mark → Answer Float
-distanceAnswer h m = decided (firstFailed (distanceTests h m)) (distanceOf h m)
+unfoldable pub distanceAnswer : Model → Mark → Answer Measure
+distanceAnswer h m = decided (firstFailed (distanceTests h m)) (measureOf h m)
 
 -- what each case of the entry's answer stands for
-unfoldable pub viewMeasured : Measured → Answer Float
-viewMeasured (Distance d) = gives d
+unfoldable pub viewMeasured : Measured → Answer Measure
+viewMeasured (Distance d) = gives (distance d)
+viewMeasured Beyond = gives beyond
 viewMeasured (Refused k) = refused k

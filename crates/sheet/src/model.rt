@@ -1,5 +1,5 @@
-// The distance of a mark under a candidate (document 01, 'Distance'): every operation once, in 01's
-// order.
+// The distance of a mark under a candidate (document 01, 'Distance'), or that the mark is beyond
+// (document 02, order 2): every operation once, in 01's order.
 use crate::marks::Mark;
 use crate::marks::Point;
 use crate::marks::Side;
@@ -7,10 +7,11 @@ use crate::marks::all_in_range;
 use crate::marks::point_of;
 use crate::marks::squared_apart;
 ghost use mathlib.Core.Path.{_≡_};
+ghost use Rattle.rule.specs.Answer.{gives};
 ghost use Rattle.numbers.specs.Finite.{allFinite};
 ghost use Rattle.numbers.specs.Constants.{farthest};
 ghost use Rattle.sheet.specs.Marks.{allWithin, markNumbers};
-ghost use Rattle.sheet.specs.Distance.{projectionOf, distanceOf, distanceAnswer, viewMeasured, modelNumbers};
+ghost use Rattle.sheet.specs.Distance.{projectionOf, measureOf, distanceAnswer, viewMeasured, modelNumbers};
 
 // A candidate: the homography from the sheet to pixels, row by row.
 pub struct Model {
@@ -31,9 +32,11 @@ pub struct Projection {
     pub at: Point,
 }
 
-// What `distance` answers: the distance, or the number of the refusal.
+// What `distance` answers: the distance, that the mark is beyond the horizon, or the number of the
+// refusal.
 pub enum Measured {
     Distance(f64),
+    Beyond,
     Refused(u32),
 }
 
@@ -49,15 +52,15 @@ pub fn project(h: Model, p: Point) -> Projection
     Projection { s, at }
 }
 
-// The distance for any numbers: infinite unless s > 0.
-pub fn residual(h: Model, m: Mark) -> f64
-    ensures { λ r. ⌜ r ≡ distanceOf h m ⌝ }
+// The distance for any numbers: beyond unless s > 0. It refuses nothing.
+pub fn residual(h: Model, m: Mark) -> Measured
+    ensures { λ r. ⌜ viewMeasured r ≡ gives (measureOf h m) ⌝ }
 {
     let to = project(h, point_of(m, Side::Sheet));
     if to.s > 0.0 {
-        root::sqrt(squared_apart(to.at, point_of(m, Side::Pixel)))
+        Measured::Distance(root::sqrt(squared_apart(to.at, point_of(m, Side::Pixel))))
     } else {
-        f64::from_bits(0x7ff0_0000_0000_0000)
+        Measured::Beyond
     }
 }
 
@@ -85,7 +88,7 @@ pub fn distance(h: Model, m: Mark) -> Measured
         return Measured::Refused(rule::RECORD);
     }
     if mark_in_range(m) {
-        Measured::Distance(residual(h, m))
+        residual(h, m)
     } else {
         Measured::Refused(rule::POINT)
     }

@@ -1,7 +1,6 @@
 -- `sheet::model::distance` meets its contract. Assumes nothing.
-use mathlib.Core.Path.{sym, ap, _∙_}
+use mathlib.Core.Path.{sym, _∙_}
 use borrow.Author.Needs.{needs}
-use Rattle.rule.specs.Answer.{gives}
 use Rattle.rule.proofs.Tests.{failed, held}
 use Rattle.sheet.specs.Distance.{viewMeasured}
 use Rattle.sheet.proofs.Refused.{model-refused, mark-refused, measured}
@@ -23,7 +22,7 @@ residual-requires c κs = search needs
 
 returns-2 : tie.Need-returns-2
 unfolding viewMeasured
-returns-2 c = ap gives (c .residual .ensures) ∙ measured _ _ (held (c .before .before .before .before .model-finite .ensures) (c .before .before .before .if1 .left)) (sym (c .before .before .mark-in-range .ensures) ∙ c .before .if2 .taken)
+returns-2 c = c .residual .ensures ∙ measured _ _ (held (c .before .before .before .before .model-finite .ensures) (c .before .before .before .if1 .left)) (sym (c .before .before .mark-in-range .ensures) ∙ c .before .if2 .taken)
 
 returns-3 : tie.Need-returns-3
 unfolding viewMeasured

@@ -1,7 +1,9 @@
 -- `sheet::model::residual` meets its contract. Assumes nothing.
+use mathlib.Core.Path.{ap}
 use borrow.Author.Needs.{needs}
-use lib.Ieee.{nanBits}
-use Rattle.sheet.specs.Distance.{distanceOf}
+use Rattle.rule.specs.Answer.{gives}
+use Rattle.numbers.specs.Measure.{distance}
+use Rattle.sheet.specs.Distance.{measureOf, viewMeasured}
 use Rattle.sheet.proofs.model.residual.Statement.{statement}
 use Rattle.sheet.proofs.model.residual.Tie as tie
 
@@ -20,17 +22,13 @@ squared-apart-requires c κs = search needs
 sqrt-requires : tie.Need-sqrt-requires
 sqrt-requires c κs = search needs
 
-float-from-bits-result : tie.Need-float-from-bits-result
-unfolding nanBits
-float-from-bits-result c = tt
-
 returns : tie.Need-returns
-unfolding distanceOf
+unfolding measureOf viewMeasured
 returns c =
-    rw (← c .before .before .before .before .before .before .point-of .ensures, ← c .before .before .before .before .before .project .ensures, ← c .before .before .point-of2 .ensures, ← c .before .squared-apart .ensures, c .before .before .before .if1 .taken) (c .sqrt .ensures)
+    rw (← c .before .before .before .before .before .before .point-of .ensures, ← c .before .before .before .before .before .project .ensures, ← c .before .before .point-of2 .ensures, ← c .before .squared-apart .ensures, c .before .before .before .if1 .taken) (ap (λ d. gives (distance d)) (c .sqrt .ensures))
 
 returns-2 : tie.Need-returns-2
-unfolding distanceOf
+unfolding measureOf viewMeasured
 returns-2 c = rw (← c .before .before .before .point-of .ensures, ← c .before .before .project .ensures, c .if1 .left)
 
 pub residual-spec : {M : Type 1} → statement M
@@ -42,6 +40,5 @@ residual-spec =
     point-of-requires-2
     squared-apart-requires
     sqrt-requires
-    float-from-bits-result
     returns
     returns-2)
