@@ -11,7 +11,7 @@ use borrow.Author.Tests.{leb-false, ltb-false, lt-leb, le-ltb}
 use lib.Dec.{T, leb, ltb}
 use Rattle.rule.specs.Refusal.{ENDED}
 use Rattle.book.specs.Score.{Options, Standing, Judged, turned-down, empty, few, scored}
-use Rattle.book.specs.Book.{Book, Held, Outcome, is-refused, is-held, is-won, raised, lowered, boundAfter, beats, scoredAnswer, entered, endedAt, hasEnded, called, fresh, bookAfter, answersOf}
+use Rattle.book.specs.Book.{Book, Held, Outcome, is-refused, is-held, is-won, raised, lowered, boundAfter, beats, scoredAnswer, entered, endedAt, hasEnded, called, fresh, bookAfter, outcomesOf}
 use Rattle.book.specs.Calls.{closedAt, isClosed, tried}
 use Rattle.book.specs.Rule.{Score, Among, scoresIn, Picks}
 use Rattle.rule.specs.Arith.{clear}
@@ -20,7 +20,7 @@ use Rattle.book.proofs.Winners.{among-none, among-last, scoreAt, picks-
 -- ---- one call, before and after the end
 
 module _ {M : Type 0} (o : Options) (b : Book M) (j : Judged M) where
-  pub called-late : hasEnded b ≡ true → called o b j ≡ record { book = b; answer = is-refused ENDED }
+  pub called-late : hasEnded b ≡ true → called o b j ≡ record { book = b; outcome = is-refused ENDED }
   unfolding called
   called-late h = rw h
 
@@ -138,22 +138,22 @@ module _ {M : Type 0} (o : Options) where
 
   -- the calls to come, after those that scored es
   abbrev Reached : Book M → List Score → List (Judged M) → Type 0
-  Reached b es calls = Ranked (bookAfter o b calls) (es ++ scoresIn (b .read) (answersOf o b calls))
+  Reached b es calls = Ranked (bookAfter o b calls) (es ++ scoresIn (b .read) (outcomesOf o b calls))
 
   module _ (js : List (Judged M)) (rest : (b : Book M) (es : List Score) → Ranked b es → Reached b es js) (b : Book M) (es : List Score) (r : Ranked b es) where
     reached-entered : (j : Judged M) → ClearCall j
-        → Ranked (bookAfter o (entered o b j .book) js) (es ++ scoresIn (b .read) (entered o b j .answer ∷ answersOf o (entered o b j .book) js))
+        → Ranked (bookAfter o (entered o b j .book) js) (es ++ scoresIn (b .read) (entered o b j .outcome ∷ outcomesOf o (entered o b j .book) js))
     unfolding entered scoresIn
     reached-entered (turned-down k) c = rest b es r
     reached-entered empty c = rest (entered o b empty .book) es (ranked-empty b es r)
     reached-entered (few count) c = rest (entered o b (few count) .book) es (ranked-few b es r count)
     reached-entered (scored s) c =
         let e = scoreAt (b .read) s in
-        let more = answersOf o (entered o b (scored s) .book) js in
+        let more = outcomesOf o (entered o b (scored s) .book) js in
         rw (score-seen s (b .winner) (b .read) more, ← append-assoc es (e ∷ []) (scoresIn (suc (b .read)) more)) (rest (entered o b (scored s) .book) (es ++ (e ∷ [])) (ranked-scored b es r s c))
 
     reached-next : (j : Judged M) → ClearCall j → Reached b es (j ∷ js)
-    unfolding bookAfter answersOf scoresIn
+    unfolding bookAfter outcomesOf scoresIn
     reached-next j c = go (hasEnded b) refl
       where
         go : (t : Bool) → hasEnded b ≡ t → Reached b es (j ∷ js)
@@ -161,10 +161,10 @@ module _ {M : Type 0} (o : Options) where
         go false h = rw (called-open o b j h) (reached-entered j c)
 
   ranked-after : (calls : List (Judged M)) → ClearCalls calls → (b : Book M) (es : List Score) → Ranked b es → Reached b es calls
-  unfolding bookAfter answersOf scoresIn
+  unfolding bookAfter outcomesOf scoresIn
   ranked-after [] c b es r = rw (append-nil es) r
   ranked-after (j ∷ js) c b es r = reached-next js (ranked-after js (c .1)) b es r j (c .0)
 
-  pub picked-after : (calls : List (Judged M)) → ClearCalls calls → Picks (bookAfter o (fresh o) calls .winner) (scoresIn 0 (answersOf o (fresh o) calls))
+  pub picked-after : (calls : List (Judged M)) → ClearCalls calls → Picks (bookAfter o (fresh o) calls .winner) (scoresIn 0 (outcomesOf o (fresh o) calls))
   unfolding fresh
   picked-after calls c = ranked-after calls c (fresh o) [] ranked-fresh .picks

@@ -5,3 +5,4 @@ pub mod Winners
 pub mod Along
 pub mod Picked
 pub mod Runs
+pub mod Beyond

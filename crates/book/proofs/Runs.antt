@@ -22,7 +22,7 @@ module _ {M : Type 0} (o : Options) (b : Book M) where
   run-late h (scored s ∷ js) = rw h
 
   module _ (open-still : hasEnded b ≡ false) (js : List (Judged M)) where
-    pub run-on : (j : Judged M) → isRefusal (entered o b j .answer) ≡ false → runOver o b (j ∷ js) ≡ runOver o (entered o b j .book) js
+    pub run-on : (j : Judged M) → isRefusal (entered o b j .outcome) ≡ false → runOver o b (j ∷ js) ≡ runOver o (entered o b j .book) js
     unfolding runOver entered isRefusal
     run-on (turned-down k) h = clash refl h
     run-on empty h = rw open-still
@@ -37,7 +37,7 @@ module _ {M : Type 0} (o : Options) (b : Book M) where
         go true e = clash e refl
         go false e = clash e refl
 
-    pub run-broken : (j : Judged M) → isRefusal (entered o b j .answer) ≡ true → broken (numberIn (entered o b j .answer)) ≡ runOver o b (j ∷ js)
+    pub run-broken : (j : Judged M) → isRefusal (entered o b j .outcome) ≡ true → broken (numberIn (entered o b j .outcome)) ≡ runOver o b (j ∷ js)
     unfolding runOver entered isRefusal numberIn
     run-broken (turned-down k) h = rw open-still
     run-broken empty h = clash h refl

@@ -1,11 +1,11 @@
--- Document 01, 'Picking rule': the book. It is fed judged calls and keeps four counts, a bound and a winner. It knows nothing of a program's state.
+-- Document 01, 'Picking rule', with document 02, order 2: the book. It is fed judged calls and keeps four counts, a bound and a winner. It knows nothing of a program's state.
 use mathlib.Core.Bool.{Bool, true, cond, _&&_, _||_}
 use mathlib.Core.List.{List, [], _∷_}
 use Prim.Native.Nat.{ℕ, suc}
 use lib.Dec.{leb, ltb, eqb}
 use lib.Ieee.{Float, lt}
 use Rattle.rule.specs.Refusal.{ENDED}
-use Rattle.book.specs.Score.{Options, Standing, Judged, turned-down, empty, few, scored}
+use Rattle.book.specs.Score.{Options, Standing, Judged, turned-down, empty, few, scored, Judgement}
 
 -- The winner: the standing model, its own count and rms, and the trial's number from 1. (In the terms of the field, the best hypothesis so far.)
 pub record Winner (M : Type 0) : Type 0 where
@@ -26,7 +26,7 @@ pub record Book (M : Type 0) : Type 0 where
   pub bound : ℕ
   pub winner : Held M
 
--- A trial's answer without its state: 01's empty, few, held and won, or a refusal's number.
+-- What became of a trial: 01's empty, few, held and won, or a refusal's number.
 pub data Outcome : Type 0 where
   is-refused : ℕ → Outcome
   is-empty : Outcome
@@ -34,10 +34,15 @@ pub data Outcome : Type 0 where
   is-held : (count : ℕ) (rms : Float) → Outcome
   is-won : (count : ℕ) (rms : Float) → Outcome
 
--- the book after a call, and the book's answer to it
+-- A trial's answer without its state: the outcome, and how many marks are beyond under the fit.
+pub record Answer : Type 0 where
+  pub outcome : Outcome
+  pub beyond : ℕ
+
+-- the book after a call, and its outcome
 pub record Entered (M : Type 0) : Type 0 where
   pub book : Book M
-  pub answer : Outcome
+  pub outcome : Outcome
 
 -- The bound: raised to the trials read, then lowered to max_iters
 unfoldable pub raised : ℕ → ℕ → ℕ
@@ -73,16 +78,16 @@ module _ {M : Type 0} where
 
   -- a judged call that comes before the end
   unfoldable pub entered : Options → Book M → Judged M → Entered M
-  entered o b (turned-down k) = record { book = b; answer = is-refused k }
+  entered o b (turned-down k) = record { book = b; outcome = is-refused k }
   entered o b empty =
       record {
         book = record { read = suc (b .read); empties = suc (b .empties); fews = b .fews; scores = b .scores; bound = b .bound; winner = b .winner };
-        answer = is-empty;
+        outcome = is-empty;
       }
   entered o b (few count) =
       record {
         book = record { read = suc (b .read); empties = b .empties; fews = suc (b .fews); scores = b .scores; bound = b .bound; winner = b .winner };
-        answer = is-few count;
+        outcome = is-few count;
       }
   entered o b (scored s) =
       record {
@@ -95,7 +100,7 @@ module _ {M : Type 0} where
               bound = boundAfter (o .most) (suc (b .read)) (s .stop);
               winner = winnerAfter s (suc (b .read)) (b .winner);
             };
-        answer = scoredAnswer s (b .winner);
+        outcome = scoredAnswer s (b .winner);
       }
 
   unfoldable pub hasEnded : Book M → Bool
@@ -103,7 +108,7 @@ module _ {M : Type 0} where
 
   -- one call: 10 after the end, which leaves the book
   unfoldable pub called : Options → Book M → Judged M → Entered M
-  called o b j = cond (hasEnded b) (record { book = b; answer = is-refused ENDED }) (entered o b j)
+  called o b j = cond (hasEnded b) (record { book = b; outcome = is-refused ENDED }) (entered o b j)
 
   -- counts 0, bound max_iters, no winner
   unfoldable pub fresh : Options → Book M
@@ -115,6 +120,13 @@ module _ {M : Type 0} where
   bookAfter o b [] = b
   bookAfter o b (j ∷ js) = bookAfter o (called o b j .book) js
 
-  unfoldable pub answersOf : Options → Book M → List (Judged M) → List Outcome
+  unfoldable pub outcomesOf : Options → Book M → List (Judged M) → List Outcome
+  outcomesOf o b [] = []
+  outcomesOf o b (j ∷ js) = called o b j .outcome ∷ outcomesOf o (called o b j .book) js
+
+  -- the book's answers: after the end nothing is measured
+  unfoldable pub answersOf : Options → Book M → List (Judgement M) → List Answer
   answersOf o b [] = []
-  answersOf o b (j ∷ js) = called o b j .answer ∷ answersOf o (called o b j .book) js
+  answersOf o b (j ∷ js) =
+      let e = called o b (j .worth) in
+      record { outcome = e .outcome; beyond = cond (hasEnded b) 0 (j .beyond) } ∷ answersOf o (e .book) js

@@ -21,7 +21,7 @@ isClosed b = closedAt (b .read) (b .empties) (b .fews) (b .scores) (b .bound)
 -- What a trial makes of what a state has of the book. The book itself has its own test of the end; that the two never differ after an opening is part of
 -- what is proved.
 unfoldable pub tried : {M : Type 0} → Options → Book M → Judged M → Entered M
-tried o b j = cond (isClosed b) (record { book = b; answer = is-refused ENDED }) (entered o b j)
+tried o b j = cond (isClosed b) (record { book = b; outcome = is-refused ENDED }) (entered o b j)
 
 -- ---- a list of calls
 
@@ -45,7 +45,7 @@ numberIn (is-few count) = 0
 numberIn (is-held count rms) = 0
 numberIn (is-won count rms) = 0
 
--- Every call that is not refused carries what it should; one that is may carry anything. The answers are the book's (`answersOf`): what a program
+-- Every call that is not refused carries what it should; one that is may carry anything. The outcomes are the book's (`outcomesOf`): what a program
 -- answered does not come into it.
 pub data Carried {C : Type 0} (Good : C → Type 0) : List C → List Outcome → Type 0 where
   no-call : Carried Good [] []

@@ -1,25 +1,25 @@
 -- Demand 3, in terms of the book: what holds after a list of calls, and of a whole run. `proofs/Picked.antt` proves both.
 use mathlib.Core.Path.{_≡_}
 use mathlib.Core.Logic.{_⊎_}
-use mathlib.Core.Bool.{Bool, true, false, not, cond}
-use mathlib.Core.List.{List, [], _∷_}
+use mathlib.Core.Bool.{true, false, not, cond}
+use mathlib.Core.List.{List, [], _∷_, map}
 use Prim.Native.Nat.{ℕ, suc, _+_, _≤_, _<_}
 use lib.Dec.{T}
 use lib.ListN.{length, getD, take}
 use lib.Ieee.{Float, le, eq}
 use Rattle.rule.specs.Lists.{every}
-use Rattle.book.specs.Score.{Options, Judged, turned-down, empty, few, scored}
-use Rattle.book.specs.Book.{Winner, Held, none, held, Book, Outcome, is-refused, is-empty, is-few, is-held, is-won, entered, hasEnded, fresh, bookAfter, answersOf}
+use Rattle.book.specs.Score.{Options, Judged, turned-down, empty, few, scored, Judgement}
+use Rattle.book.specs.Book.{Winner, Held, none, held, Book, Outcome, Answer, is-refused, is-empty, is-few, is-held, is-won, entered, hasEnded, fresh, bookAfter, outcomesOf, answersOf}
 use Rattle.book.specs.Calls.{isRefusal}
 
--- ---- the scored trials of a list, read off the answers that the caller saw
+-- ---- the scored trials of a list, read off the outcomes that the caller saw
 
 pub record Score : Type 0 where
   pub number : ℕ
   pub count : ℕ
   pub rms : Float
 
--- The trials read are numbered from 1: every answer but a refusal is one. `read` is how many there were before.
+-- The trials read are numbered from 1: every outcome but a refusal is one. `read` is how many there were before.
 unfoldable pub scoresIn : (read : ℕ) → List Outcome → List Score
 scoresIn read [] = []
 scoresIn read (is-refused k ∷ rest) = scoresIn read rest
@@ -54,16 +54,16 @@ unfoldable pub Picks : {M : Type 0} → Held M → List Score → Type 0
 Picks none scores = scores ≡ []
 Picks (held w) scores = Best (scoreOf w) scores
 
--- ---- after a list of calls, of which `calls` is what each comes to by itself
+-- ---- after a list of calls, of which `judge` says what each comes to by itself
 
-pub record Kept {M : Type 0} (o : Options) (calls : List (Judged M)) (answers : List Outcome) (b : Book M) : Type 0 where
+pub record Kept {C M : Type 0} (o : Options) (judge : C → Judgement M) (calls : List C) (answers : List Answer) (b : Book M) : Type 0 where
   -- 'every answer, and the state's winner, counts and bound, are those of 01's book'
-  pub answered : answers ≡ answersOf o (fresh o) calls
-  pub booked : b ≡ bookAfter o (fresh o) calls
+  pub answered : answers ≡ answersOf o (fresh o) (map judge calls)
+  pub booked : b ≡ bookAfter o (fresh o) (map (λ c. judge c .worth) calls)
   -- 'trials read = empty + few + scored'
   pub counted : b .read ≡ b .empties + b .fews + b .scores
   -- 'The winner's count of marks is the largest', and what follows it
-  pub picked : Picks (b .winner) (scoresIn 0 answers)
+  pub picked : Picks (b .winner) (scoresIn 0 (map (λ a. a .outcome) answers))
 
 -- ---- the whole run
 
@@ -84,7 +84,7 @@ module _ {M : Type 0} where
   -- Exactly how far it reads: `read` calls, none of them refused.
   pub record ReadTo (o : Options) (calls : List (Judged M)) (result : Stopped M) (read : ℕ) : Type 0 where
     pub inside : read ≤ length calls
-    pub accepted : every (λ a. not (isRefusal a)) (answersOf o (fresh o) (take read calls)) ≡ true
+    pub accepted : every (λ a. not (isRefusal a)) (outcomesOf o (fresh o) (take read calls)) ≡ true
     -- then comes the bound or the end, or before either a trial that is refused
     pub ends :
         (((hasEnded (bookAfter o (fresh o) (take read calls)) ≡ true) ⊎ (read ≡ length calls)) × (result ≡ stopped (bookAfter o (fresh o) (take read calls))))

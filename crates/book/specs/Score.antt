@@ -1,5 +1,5 @@
--- Document 01, 'Trials': what a trial's record is worth, seen from the distances of the marks under a model alone. Nothing here knows the model,
--- the mark or the distance.
+-- Document 01, 'Trials', and document 02, order 2: what a trial's record is worth, seen from the distances of the marks under a model alone, and how many marks
+-- are beyond under its fit. Nothing here knows the model, the mark or the distance.
 use mathlib.Core.Bool.{Bool, cond, _&&_}
 use mathlib.Core.List.{List}
 use Prim.Native.Nat.{ℕ}
@@ -63,6 +63,17 @@ pub data Judged (M : Type 0) : Type 0 where
   empty : Judged M
   few : ℕ → Judged M
   scored : Standing M → Judged M
+
+-- The same, and how many marks are beyond under the fit: 0 without one, and for a call that is turned down, since nothing is measured then.
+pub record Judgement (M : Type 0) : Type 0 where
+  pub worth : Judged M
+  pub beyond : ℕ
+
+-- That number of a trial's record, by how many marks are beyond under a model. The refit has no part in it.
+unfoldable pub beyondFit : {M : Type 0} → (M → ℕ) → Trial M → ℕ
+beyondFit beyond unfitted = 0
+beyondFit beyond (fitted fit) = beyond fit
+beyondFit beyond (refitted fit refit) = beyond fit
 
 module _ {M : Type 0} (o : Options) (distances : M → List Float) (stops : List ℕ) where
   unfoldable pub countUnder : M → ℕ

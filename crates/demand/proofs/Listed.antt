@@ -1,7 +1,8 @@
 -- The calls of the third demand: after any list of them from an accepted opening. Assumes nothing.
-use mathlib.Core.Path.{_≡_, refl, sym, ap, subst, _∙_}
+use mathlib.Core.Path.{_≡_, sym, ap, subst, _∙_}
+use mathlib.Core.Bool.{cond}
 use mathlib.Core.List.{List, _∷_, _++_, map}
-use Prim.Native.Nat.{ℕ, zero, suc, _^_, _≤_}
+use Prim.Native.Nat.{ℕ, _^_, _≤_}
 use native.Mathlib.Omega.{arith}
 use lib.Dec.{T}
 use lib.ListN.{length, getD, take, drop}
@@ -16,9 +17,9 @@ use Rattle.sheet.specs.Marks.{marksOf, markAt, noMark}
 use Rattle.sheet.specs.Distance.{distanceOf, inlier}
 use Rattle.sheet.specs.declared.model.Model.{Model}
 use Rattle.sheet.proofs.Places.{count}
-use Rattle.book.specs.Score.{close, countIn, rmsIn, Standing, Judged, scored, turned-down}
+use Rattle.book.specs.Score.{close, countIn, rmsIn, Standing, scored}
 use Rattle.book.specs.Book.{Winner, held, Book, Entered, fresh, bookAfter}
-use Rattle.book.specs.Calls.{tried, Called}
+use Rattle.book.specs.Calls.{isClosed, tried, Called}
 use Rattle.book.specs.Rule.{Kept}
 use Rattle.book.proofs.Picked.{judge-own, judge-clear, picking-rule, callable, winner-has}
 use Rattle.records.specs.Options.{optionsRecord, optionsOf}
@@ -28,21 +29,20 @@ use Rattle.measure.specs.Distances.{distancesOf}
 use Rattle.score.specs.Places.{indicesIn}
 use Rattle.measure.proofs.Squares.{distances-count, distance-at}
 use Rattle.salghemu.specs.Whole.{laidOver}
-use Rattle.judge.specs.Judging.{ruleOf, Call, callTests, worth, judgedBy, judgeOf}
-use Rattle.pick.specs.Run.{Run, Answer, viewBest, bookOf, viewState, viewOutcome, viewTried}
+use Rattle.judge.specs.Judging.{ruleOf, Call, callTests, worth, judgedBy, judgeOf, beyondBy, judgementOf}
+use Rattle.pick.specs.Run.{Run, Answer, viewBest, bookOf, viewState, viewTried}
 use Rattle.pick.specs.Opening.{openingTests, freshRun, openingAnswer, recordAnswer, viewOpened}
 use Rattle.pick.specs.declared.opening.Opened.the-variants.{Open}
-use Rattle.pick.specs.Trial.{answerOf, triedWith, trialAnswer}
+use Rattle.pick.specs.Trial.{bookingOf, triedIn, answerOf, triedWith, trialAnswer}
 use Rattle.pick.specs.Indices.{marksOrder, underAnswer, underAfter, winnerAnswer, winnerAfter, indicesAnswer, indicesAfter, viewIndexed}
 use Rattle.pick.specs.declared.run_state.State.{State}
-use Rattle.pick.specs.declared.run_state.Outcome.{Outcome}
 use Rattle.pick.specs.declared.indices.Indexed.{Indexed}
 use Rattle.pick.specs.declared.indices.Indexed.the-variants.{Written}
 use Rattle.judge.proofs.Left.{by-number}
 use Rattle.pick.proofs.Order.{opened-iters, call-short}
 use Rattle.pick.proofs.View.{indexed-one, state-onto, tried-onto}
 use Rattle.pick.proofs.Accepted.{order-passes, steps-as-trial}
-use Rattle.demand.specs.Demand.{OpensBy, Tried, Stepped, Indexes, Opening, Carries, judged, CarriedBy, Exactly, IndicesGiven, IndexedAs, AfterCalls}
+use Rattle.demand.specs.Demand.{OpensBy, Told, viewTold, Tried, Stepped, Indexes, Opening, Carries, judged, CarriedBy, Exactly, IndicesGiven, IndexedAs, AfterCalls}
 use Rattle.demand.proofs.Placed.{places-exactly}
 
 -- ---- the opening
@@ -83,16 +83,22 @@ module _ (o : RansacOptions) (marks : List Float) (stops : List ℕ) (s₀ : Sta
   fresh-opened = ap (λ (r : Run). r .book) (opened .1)
 
   entered-of : Answer → Entered Model
-  entered-of a = record { book = a .run .book; answer = a .outcome }
+  entered-of a = record { book = a .run .book; outcome = a .outcome }
 
-  step : (s t : State) (c : Call) (x : Outcome) → Of s → Tried s c t x → Of t × (record { book = bookOf t; answer = viewOutcome x } ≡ tried (ruleOf o) (bookOf s) (judgeOf o n c))
-  unfolding viewTried viewState trialAnswer triedWith answerOf entered-of
-  step s t c x of e = (
-    (ap (λ (a : Answer). a .run .options) e ∙ of .0, ap (λ (a : Answer). a .run .n) e ∙ of .1),
-    ap (λ (a : Answer). entered-of a) e
-        ∙ ap (λ (p : RansacOptions). tried (ruleOf p) (bookOf s) (judgeOf p (s .n) c)) (of .0)
-        ∙ ap (λ (k : ℕ). tried (ruleOf o) (bookOf s) (judgeOf o k c)) (of .1),
-  )
+  -- by the state's own options and n
+  as-opened : (s : State) (c : Call) → Of s → trialAnswer (viewState s) c ≡ triedWith (viewState s) (judgementOf o n c)
+  unfolding trialAnswer viewState
+  as-opened s c of =
+      ap (λ (p : RansacOptions). triedWith (viewState s) (judgementOf p (s .n) c)) (of .0) ∙ ap (λ (k : ℕ). triedWith (viewState s) (judgementOf o k c)) (of .1)
+
+  step : (s t : State) (c : Call) (x : Told) → Of s → Tried s c t x
+      → Of t × ((record { book = bookOf t; outcome = viewTold x .outcome } ≡ tried (ruleOf o) (bookOf s) (judgeOf o n c)) × (viewTold x .beyond ≡ cond (isClosed (bookOf s)) 0 (beyondBy (callTests n c) c)))
+  unfolding viewTried viewTold viewState triedWith triedIn answerOf bookingOf entered-of
+  step s t c x of e =
+      let a = e ∙ as-opened s c of in (
+        (ap (λ (a : Answer). a .run .options) a ∙ of .0, ap (λ (a : Answer). a .run .n) a ∙ of .1),
+        (ap (λ (a : Answer). entered-of a) a ∙ ap (λ (p : RansacOptions). tried (ruleOf p) (bookOf s) (judgeOf o n c)) (of .0), ap (λ (a : Answer). a .beyond) a),
+      )
 
   small : ruleOf o .most ≤ 100000
   unfolding ruleOf
@@ -187,8 +193,8 @@ module _ (o : RansacOptions) (marks : List Float) (stops : List ℕ) (s₀ : Sta
 
   -- ---- after a list of calls
 
-  pub after-list : (s : State) (calls : List Call) (answers : List Outcome) → Called Tried s₀ calls answers s → Of s × Kept (ruleOf o) (map (judgeOf o n) calls) (map viewOutcome answers) (bookOf s)
-  after-list s calls answers chain = picking-rule Tried bookOf viewOutcome (ruleOf o) (judgeOf o n) Of step small clear-rms s₀ s calls answers of-opened fresh-opened chain
+  pub after-list : (s : State) (calls : List Call) (answers : List Told) → Called Tried s₀ calls answers s → Of s × Kept (ruleOf o) (judgementOf o n) calls (map viewTold answers) (bookOf s)
+  after-list s calls answers chain = picking-rule Tried bookOf viewTold (ruleOf o) (judgementOf o n) Of step small clear-rms s₀ s calls answers of-opened fresh-opened chain
 
   own-of : (c : Call) → Carries marks stops c → (t : Standing Model) → judgeOf o n c ≡ scored t
       → (t .count ≡ countIn (o .thresh) (distancesOf marks (t .model))) × (t .rms ≡ rmsIn (o .thresh) (distancesOf marks (t .model)))
@@ -203,7 +209,7 @@ module _ (o : RansacOptions) (marks : List Float) (stops : List ℕ) (s₀ : Sta
   abbrev Own : Model → ℕ → Float → Type 0
   Own m k x = (k ≡ countIn (o .thresh) (distancesOf marks m)) × (x ≡ rmsIn (o .thresh) (distancesOf marks m))
 
-  pub calls-after : (s : State) (calls : List Call) (answers : List Outcome) → Called Tried s₀ calls answers s → CarriedBy o marks stops calls → AfterCalls o marks calls answers s
+  pub calls-after : (s : State) (calls : List Call) (answers : List Told) → Called Tried s₀ calls answers s → CarriedBy o marks stops calls → AfterCalls o marks calls answers s
   calls-after s calls answers chain carried =
       record {
         kept = listed .1;
@@ -211,17 +217,20 @@ module _ (o : RansacOptions) (marks : List Float) (stops : List ℕ) (s₀ : Sta
         indices = λ w h. indices-of s (listed .0) w h (own w h .0);
       }
     where
-      listed : Of s × Kept (ruleOf o) (judged o marks calls) (map viewOutcome answers) (bookOf s)
+      listed : Of s × Kept (ruleOf o) (judgementOf o n) calls (map viewTold answers) (bookOf s)
       listed = after-list s calls answers chain
 
       own : (w : Winner Model) → viewBest (s .winner) ≡ held w → Own (w .model) (w .count) (w .rms)
       own w h = winner-has (ruleOf o) (judgeOf o n) (Carries marks stops) Own own-of calls carried w (winner-of s calls (listed .1 .booked) w h)
 
   -- a trial without test 6
-  pub stepped-tried : (s t : State) (c : Call) (x : Outcome) → c .marks ≡ marks → Stepped s c t x → Tried s c t x
+  pub stepped-tried : (s t : State) (c : Call) (x : Told) → c .marks ≡ marks → Stepped s c t x → Tried s c t x
   stepped-tried s t c x e h = h ∙ steps-as-trial o marks stops s₀ opening s c e
 
 -- ---- every call has an answer
 
-pub calls-answered : (s : State) (calls : List Call) → (z : State) × ((answers : List Outcome) × Called Tried s calls answers z)
-calls-answered = callable Tried (λ s c. tried-onto (trialAnswer (viewState s) c))
+pub calls-answered : (s : State) (calls : List Call) → (z : State) × ((answers : List Told) × Called Tried s calls answers z)
+calls-answered = callable Tried (λ s c. answered (trialAnswer (viewState s) c))
+  where
+    answered : (a : Answer) → (t : State) × ((x : Told) × (viewTried (record { state = t; outcome = x .outcome; beyond = x .beyond }) ≡ a))
+    answered a = let t = tried-onto a in (t .0 .state, (record { outcome = t .0 .outcome; beyond = t .0 .beyond }, t .1))

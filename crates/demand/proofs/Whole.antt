@@ -18,10 +18,10 @@ use Rattle.rule.proofs.Order.{passes, first-passed}
 use Rattle.sheet.specs.Marks.{marksOf, shape, point, few, marksTests}
 use Rattle.sheet.specs.declared.model.Model.{Model}
 use Rattle.book.specs.Score.{Judged}
-use Rattle.book.specs.Book.{Winner, Held, none, held, Book, fresh, bookAfter, answersOf}
+use Rattle.book.specs.Book.{Winner, Held, none, held, Book, fresh, bookAfter, outcomesOf}
 use Rattle.book.specs.Calls.{Called, isRefusal}
 use Rattle.book.specs.Rule.{Kept, Stopped, stopped, broken, runOver, ReadTo}
-use Rattle.book.proofs.Picked.{run-exact}
+use Rattle.book.proofs.Picked.{outcomes-of, run-exact}
 use Rattle.fields.specs.Fields.{wordsOf}
 use Rattle.fields.proofs.Reading.{words-count}
 use Rattle.records.specs.Options.{thresh, confidence, iters, optionsRecord, optionsOf, optionsTests}
@@ -30,13 +30,12 @@ use Rattle.records.specs.declared.options.RansacOptions.{RansacOptions}
 use Rattle.records.proofs.Whole.{numbers-length}
 use Rattle.measure.specs.Distances.{distancesOf}
 use Rattle.score.specs.Places.{indicesIn}
-use Rattle.judge.specs.Judging.{ruleOf, entries, judgeOf}
+use Rattle.judge.specs.Judging.{ruleOf, entries, judgeOf, judgementOf}
 use Rattle.pick.specs.Run.{viewBest, bookOf, viewOutcome}
 use Rattle.pick.specs.Opening.{openingTests}
 use Rattle.pick.specs.declared.run_state.State.{State}
-use Rattle.pick.specs.declared.run_state.Outcome.{Outcome}
 use Rattle.salghemu.specs.Whole.{Files, markBytes, stopBytes, laterTests, orderOf, runTests, recordsIn, callWith, callsOf, judgedIn, stopOf, wonBy, resultOf, afterTests, runAnswer, numberOf, indexBytes, written, Gave}
-use Rattle.demand.specs.Demand.{Opening, Tried, Refuses, GivesOf, CalledAlike, AfterRun, by-tests, by-trials}
+use Rattle.demand.specs.Demand.{Opening, Told, viewTold, Tried, Refuses, GivesOf, CalledAlike, AfterRun, by-tests, by-trials}
 use Rattle.demand.proofs.Listed.{opening-accepted, after-list, given-as, calls-answered}
 
 -- ---- lists
@@ -157,18 +156,26 @@ module _ (f : Files) (r : ℕ) (winner indices winner′ indices′ : List ℕ) 
     stop-is = ap (runOver (ruleOf p) (fresh (ruleOf p))) (map-twice (judgeOf p m) (callWith numbers (wordsOf (f .stops))) (recordsIn (f .trials)))
 
     -- the winner of the calls one by one, and their indices
-    module _ (s₀ s : State) (answers : List Outcome) (read : ℕ) (opening : Opening p numbers (wordsOf (f .stops)) s₀) (chain : Called Tried s₀ (take read (callsOf f)) answers s) where
-      listed : ((s .options ≡ p) × (s .n ≡ m)) × Kept (ruleOf p) (map (judgeOf p m) (take read (callsOf f))) (map viewOutcome answers) (bookOf s)
+    module _ (s₀ s : State) (answers : List Told) (read : ℕ) (opening : Opening p numbers (wordsOf (f .stops)) s₀) (chain : Called Tried s₀ (take read (callsOf f)) answers s) where
+      listed : ((s .options ≡ p) × (s .n ≡ m)) × Kept (ruleOf p) (judgementOf p m) (take read (callsOf f)) (map viewTold answers) (bookOf s)
       listed = after-list p numbers (wordsOf (f .stops)) s₀ opening s (take read (callsOf f)) answers chain
 
       book-is : bookOf s ≡ bookAfter (ruleOf p) (fresh (ruleOf p)) (take read js)
       book-is = listed .1 .booked ∙ ap (bookAfter (ruleOf p) (fresh (ruleOf p))) (map-take (judgeOf p m) read (callsOf f))
 
-      answers-are : map viewOutcome answers ≡ answersOf (ruleOf p) (fresh (ruleOf p)) (take read js)
-      answers-are = listed .1 .answered ∙ ap (answersOf (ruleOf p) (fresh (ruleOf p))) (map-take (judgeOf p m) read (callsOf f))
+      outcomes-are : map (λ a. a .outcome) (map viewTold answers) ≡ outcomesOf (ruleOf p) (fresh (ruleOf p)) (take read js)
+      outcomes-are =
+          ap (map (λ a. a .outcome)) (listed .1 .answered)
+          ∙ outcomes-of (ruleOf p) (judgementOf p m) (fresh (ruleOf p)) (take read (callsOf f))
+          ∙ ap (outcomesOf (ruleOf p) (fresh (ruleOf p))) (map-take (judgeOf p m) read (callsOf f))
 
-      none-refused : every (λ a. not (isRefusal a)) (answersOf (ruleOf p) (fresh (ruleOf p)) (take read js)) ≡ true → every (λ x. not (isRefusal (viewOutcome x))) answers ≡ true
-      none-refused h = every-map (λ a. not (isRefusal a)) viewOutcome answers ∙ ap (every (λ a. not (isRefusal a))) answers-are ∙ h
+      none-refused : every (λ a. not (isRefusal a)) (outcomesOf (ruleOf p) (fresh (ruleOf p)) (take read js)) ≡ true → every (λ x. not (isRefusal (viewOutcome (x .outcome)))) answers ≡ true
+      unfolding viewTold
+      none-refused h =
+          every-map (λ a. not (isRefusal (a .outcome))) viewTold answers
+          ∙ every-map (λ a. not (isRefusal a)) (λ a. a .outcome) (map viewTold answers)
+          ∙ ap (every (λ a. not (isRefusal a))) outcomes-are
+          ∙ h
 
       by-winner : (h : Held Model) → viewBest (s .winner) ≡ h → Gives (wonBy h) → GivesOf numbers s h r winner indices winner′ indices′
       unfolding GivesOf wonBy numberOf written indexBytes

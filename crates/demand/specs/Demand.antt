@@ -14,7 +14,7 @@ use Rattle.sheet.specs.Marks.{marksOf, markAt}
 use Rattle.sheet.specs.Distance.{inlier}
 use Rattle.sheet.specs.declared.model.Model.{Model}
 use Rattle.book.specs.Score.{countIn, rmsIn, Judged}
-use Rattle.book.specs.Book.{Winner, Held, none, held, Book, fresh, answersOf}
+use Rattle.book.specs.Book.{Winner, Held, none, held, Book, Answer, fresh, outcomesOf}
 use Rattle.book.specs.Calls.{Called, Carried, isRefusal}
 use Rattle.book.specs.Rule.{Among, Kept, Stopped, stopped, broken, ReadTo}
 use Rattle.fields.specs.Fields.{wordsOf, bytesOf}
@@ -22,7 +22,7 @@ use Rattle.records.specs.Options.{optionsOf}
 use Rattle.records.specs.Marks.{numbersIn}
 use Rattle.records.specs.declared.options.RansacOptions.{RansacOptions}
 use Rattle.measure.specs.Distances.{distancesOf}
-use Rattle.judge.specs.Judging.{ruleOf, Call, judgeOf}
+use Rattle.judge.specs.Judging.{ruleOf, Call, judgeOf, judgementOf}
 use Rattle.pick.specs.Run.{viewBest, bookOf, viewState, viewOutcome, viewTried}
 use Rattle.pick.specs.Opening.{openingTests, openingAnswer, recordAnswer, viewOpened}
 use Rattle.pick.specs.Trial.{trialAnswer, stepAnswer}
@@ -44,13 +44,21 @@ Opens o marks stops r = viewOpened r ≡ openingAnswer o marks stops
 abbrev pub OpensBy : (bytes : List ℕ) → (marks : List Float) → (stops : List ℕ) → Opened → Type 0
 OpensBy bytes marks stops r = viewOpened r ≡ recordAnswer bytes marks stops
 
--- one trial call, from the state s to the state t with the outcome x
-abbrev pub Tried : State → Call → State → Outcome → Type 0
-Tried s c t x = viewTried (record { state = t; outcome = x }) ≡ trialAnswer (viewState s) c
+-- a trial's answer without its state: 'Answers are compared without their state'
+pub record Told : Type 0 where
+  pub outcome : Outcome
+  pub beyond : ℕ
+
+unfoldable pub viewTold : Told → Answer
+viewTold x = record { outcome = viewOutcome (x .outcome); beyond = x .beyond }
+
+-- one trial call, from the state s to the state t with the answer x
+abbrev pub Tried : State → Call → State → Told → Type 0
+Tried s c t x = viewTried (record { state = t; outcome = x .outcome; beyond = x .beyond }) ≡ trialAnswer (viewState s) c
 
 -- one trial over marks that were tested before, as `pickmarks` calls it
-abbrev pub Stepped : State → Call → State → Outcome → Type 0
-Stepped s c t x = viewTried (record { state = t; outcome = x }) ≡ stepAnswer (viewState s) c
+abbrev pub Stepped : State → Call → State → Told → Type 0
+Stepped s c t x = viewTried (record { state = t; outcome = x .outcome; beyond = x .beyond }) ≡ stepAnswer (viewState s) c
 
 -- the indices asked for from s, with a lent list that holds `entry` before the call and `after` behind it
 pub record Indexes (s : State) (marks : List Float) (entry : List ℕ) (r : Indexed) (after : List ℕ) : Type 0 where
@@ -79,7 +87,7 @@ judged o marks calls = map (judgeOf o (length (marksOf marks))) calls
 
 -- 'unless 01 refuses it, the opening's marks and stops': refused or not by the book, which is fed the calls and knows no state
 abbrev pub CarriedBy : RansacOptions → (marks : List Float) → (stops : List ℕ) → List Call → Type 0
-CarriedBy o marks stops calls = Carried (Carries marks stops) calls (answersOf (ruleOf o) (fresh (ruleOf o)) (judged o marks calls))
+CarriedBy o marks stops calls = Carried (Carries marks stops) calls (outcomesOf (ruleOf o) (fresh (ruleOf o)) (judged o marks calls))
 
 -- ---- the indices
 
@@ -104,11 +112,11 @@ pub record IndicesGiven (o : RansacOptions) (opened : List Float) (s : State) (w
 
 -- ---- after a list of calls
 
-pub record AfterCalls (o : RansacOptions) (marks : List Float) (calls : List Call) (answers : List Outcome) (s : State) : Type 0 where
+pub record AfterCalls (o : RansacOptions) (marks : List Float) (calls : List Call) (answers : List Told) (s : State) : Type 0 where
   -- 'every answer, and the state's winner, counts and bound, are those of 01's book, and trials read = empty + few + scored. The winner's count of marks is
   -- the largest: every other scored trial has at most that count, with the same count at least its root mean square, and with both the same it came
   -- later. Without a scored trial there is no winner.': the book's rule (`Kept`), fed the opening's options and n and each call
-  pub kept : Kept (ruleOf o) (judged o marks calls) (map viewOutcome answers) (bookOf s)
+  pub kept : Kept (ruleOf o) (judgementOf o (length (marksOf marks))) calls (map viewTold answers) (bookOf s)
   -- the winner's count and rms are its own model's, over the opening's marks
   pub own : (w : Winner Model) → viewBest (s .winner) ≡ held w
       → (w .count ≡ countIn (o .thresh) (distancesOf marks (w .model))) × (w .rms ≡ rmsIn (o .thresh) (distancesOf marks (w .model)))
@@ -148,10 +156,10 @@ module _ (f : Files) where
 
   pub record CalledAlike (read r : ℕ) (winner indices winner′ indices′ : List ℕ) : Type 0 where
     -- They can be called: the opening is accepted, and each trial after it gives a state and an outcome.
-    pub callable : (s₀ : State) × (Opening options numbers entries s₀ × ((s : State) × ((answers : List Outcome) × Called Tried s₀ (take read (callsOf f)) answers s)))
+    pub callable : (s₀ : State) × (Opening options numbers entries s₀ × ((s : State) × ((answers : List Told) × Called Tried s₀ (take read (callsOf f)) answers s)))
     -- However they are called, none is refused, and the run gives what they do.
-    pub gives-same : (s₀ s : State) (answers : List Outcome) → Opening options numbers entries s₀ → Called Tried s₀ (take read (callsOf f)) answers s
-        → (every (λ x. not (isRefusal (viewOutcome x))) answers ≡ true) × GivesOf numbers s (viewBest (s .winner)) r winner indices winner′ indices′
+    pub gives-same : (s₀ s : State) (answers : List Told) → Opening options numbers entries s₀ → Called Tried s₀ (take read (callsOf f)) answers s
+        → (every (λ x. not (isRefusal (viewOutcome (x .outcome)))) answers ≡ true) × GivesOf numbers s (viewBest (s .winner)) r winner indices winner′ indices′
 
   -- 'refuses by 01's tests before the trials'
   pub data AfterRun (r : ℕ) (winner indices winner′ indices′ : List ℕ) : Type 0 where
@@ -169,15 +177,15 @@ module _ (f : Files) where
 pub record Demand3 : Type 0 where
   -- 'For every list of trial calls from an accepted opening, refused ones included, each handed the state that the last gave back and, unless 01 refuses
   -- it, the opening's marks and stops'
-  pub after-calls : (o : RansacOptions) (marks : List Float) (stops : List ℕ) (s₀ s : State) (calls : List Call) (answers : List Outcome)
+  pub after-calls : (o : RansacOptions) (marks : List Float) (stops : List ℕ) (s₀ s : State) (calls : List Call) (answers : List Told)
       → Opening o marks stops s₀ → Called Tried s₀ calls answers s → CarriedBy o marks stops calls → AfterCalls o marks calls answers s
   -- There are such openings, where none of 01's tests fails; and every such list can be called: from any state, each call gives the next.
   pub openable : (o : RansacOptions) (marks : List Float) (stops : List ℕ) → firstFailed (openingTests o marks stops) ≡ 0 → (s₀ : State) × Opening o marks stops s₀
-  pub callable : (s₀ : State) (calls : List Call) → (s : State) × ((answers : List Outcome) × Called Tried s₀ calls answers s)
+  pub callable : (s₀ : State) (calls : List Call) → (s : State) × ((answers : List Told) × Called Tried s₀ calls answers s)
   -- An opening by a record that is accepted is one with that record's options, so the same holds after it.
   pub by-record : (bytes : List ℕ) (marks : List Float) (stops : List ℕ) (s₀ : State) → OpensBy bytes marks stops (Open s₀) → Opening (optionsOf bytes) marks stops s₀
   -- A trial over the opening's marks without testing them again is a trial: so what `pickmarks` calls are calls of this demand.
-  pub by-steps : (o : RansacOptions) (marks : List Float) (stops : List ℕ) (s₀ s t : State) (c : Call) (x : Outcome) → Opening o marks stops s₀ → c .marks ≡ marks
+  pub by-steps : (o : RansacOptions) (marks : List Float) (stops : List ℕ) (s₀ s t : State) (c : Call) (x : Told) → Opening o marks stops s₀ → c .marks ≡ marks
       → Stepped s c t x → Tried s c t x
   -- 'The whole run, whatever its bytes'
   pub after-run : (f : Files) (r : ℕ) (winner indices winner′ indices′ : List ℕ) → Ran f winner indices r winner′ indices′ → AfterRun f r winner indices winner′ indices′

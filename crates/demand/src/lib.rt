@@ -22,13 +22,13 @@ pub fn open_record(bytes: &[u8], marks: &[f64], stops: &[u32]) -> Opened
 }
 
 pub fn trial(s: State, bytes: &[u8], marks: &[f64], stops: &[u32]) -> Tried
-    ensures { λ r. ⌜ Tries s (record { bytes = now (bytes .entry); marks = now (marks .entry); stops = now (stops .entry) }) (r .state) (r .outcome) ⌝ }
+    ensures { λ r. ⌜ Tries s (record { bytes = now (bytes .entry); marks = now (marks .entry); stops = now (stops .entry) }) (r .state) (record { outcome = r .outcome; beyond = r .beyond }) ⌝ }
 {
     pick::trial(s, bytes, marks, stops)
 }
 
 pub fn step(s: State, bytes: &[u8], marks: &[f64], stops: &[u32]) -> Tried
-    ensures { λ r. ⌜ Stepped s (record { bytes = now (bytes .entry); marks = now (marks .entry); stops = now (stops .entry) }) (r .state) (r .outcome) ⌝ }
+    ensures { λ r. ⌜ Stepped s (record { bytes = now (bytes .entry); marks = now (marks .entry); stops = now (stops .entry) }) (r .state) (record { outcome = r .outcome; beyond = r .beyond }) ⌝ }
 {
     pick::step(s, bytes, marks, stops)
 }

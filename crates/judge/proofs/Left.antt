@@ -4,6 +4,7 @@ use mathlib.Core.Bool.{Bool, true, false, cond}
 use mathlib.Core.List.{List, map}
 use Prim.Native.Nat.{ℕ, zero, suc, _≤_, _<_}
 use native.Mathlib.Omega.{arith}
+use borrow.Author.Tests.{le-ltb}
 use lib.Dec.{ltb}
 use lib.ListN.{length, take}
 use lib.Seq.{length-take-le}
@@ -12,16 +13,17 @@ use Rattle.rule.specs.Lists.{filled}
 use Rattle.rule.specs.Order.{firstFailed, ifPassed}
 use Rattle.rule.proofs.Tests.{clash}
 use Rattle.rule.proofs.Order.{done}
-use Rattle.rule.proofs.Lists.{filled-not, filled-length, filled-front, filled-again}
+use Rattle.rule.proofs.Lists.{count-most, filled-not, filled-length, filled-front, filled-again}
 use Rattle.root.specs.Root.{rootOf}
 use Rattle.sheet.specs.Marks.{marksOf}
+use Rattle.sheet.specs.Distance.{beyondUnder}
 use Rattle.sheet.specs.declared.model.Model.{Model}
 use Rattle.sheet.proofs.Places.{count}
-use Rattle.book.specs.Score.{Judged, turned-down, few, scored, Standing, Trial, unfitted, fitted, refitted, countIn, squaresIn, rmsOf, rmsIn, countUnder, standing, standsOf, judgedBy, judgeTrial}
+use Rattle.book.specs.Score.{Judged, turned-down, few, scored, Standing, Trial, unfitted, fitted, refitted, countIn, rmsIn, countUnder, standing, standsOf, judgedBy, judgeTrial}
 use Rattle.book.proofs.Picked.{judge-own}
 use Rattle.records.specs.Trial.{trialOf}
 use Rattle.records.specs.declared.options.RansacOptions.{RansacOptions}
-use Rattle.measure.specs.Distances.{distancesOf, squaresOf}
+use Rattle.measure.specs.Distances.{distancesOf, beyondOf, squaresOf, beyondFound}
 use Rattle.measure.proofs.Squares.{squares-count, distances-count, roots-of-squares}
 use Rattle.score.specs.Places.{indexCount, indexed}
 use Rattle.score.proofs.Walk.{too-many}
@@ -29,7 +31,6 @@ use Rattle.judge.specs.Judging.{ruleOf, Call, testedMarks, testedTests, 
 use Rattle.judge.specs.declared.Support.{Support}
 use Rattle.judge.specs.declared.Finding.{Finding}
 use Rattle.judge.specs.declared.Finding.the-variants as Findings
-use Rattle.judge.specs.declared.Verdict.{Verdict}
 use Rattle.judge.specs.declared.Verdict.the-variants as Verdicts
 use Rattle.judge.proofs.Ways.{run-passed}
 
@@ -38,14 +39,26 @@ use Rattle.judge.proofs.Ways.{run-passed}
 pub few-enough : (l : List Float) {n : ℕ} → length l ≤ 8000 → 2000 ≤ n → length (marksOf l) ≤ n
 few-enough l h room = let k = count l in omega (arith, k, h, room)
 
+pub measured-fits : (l : List Float) (h : Model) (entry : List Float) {n : ℕ} {s : List Float} → n ≡ length (marksOf l) → length (marksOf l) ≤ length entry → s ≡ filled (squaresOf l h) entry → n ≤ length s
+measured-fits l h entry e room is = rw (is, filled-length (squaresOf l h) entry, e) room
+
 pub measured-front : (l : List Float) (h : Model) (entry : List Float) {n : ℕ} {s : List Float} → n ≡ length (marksOf l) → length (marksOf l) ≤ length entry → s ≡ filled (squaresOf l h) entry → n ≡ length (take n s)
-measured-front l h entry {n} {s} e room is = sym (length-take-le n s (rw (is, filled-length (squaresOf l h) entry, e) room))
+measured-front l h entry {n} {s} e room is = sym (length-take-le n s (measured-fits l h entry e room is))
 
 pub measured-roots : (l : List Float) (h : Model) (entry : List Float) {n : ℕ} {s : List Float} → n ≡ length (marksOf l) → length (marksOf l) ≤ length entry → s ≡ filled (squaresOf l h) entry
     → map rootOf (take n s) ≡ distancesOf l h
 measured-roots l h entry {n} {s} e room is =
     let long = squares-count l h in
     rw (e ∙ sym long, is, filled-front (squaresOf l h) entry (rw long room)) (roots-of-squares l h)
+
+-- how many are found beyond, and that these are few
+pub found-beyond : (l : List Float) (h : Model) (entry : List Float) {far : ℕ} → length (marksOf l) ≤ length entry → far ≡ beyondFound l h entry → far ≡ beyondOf l h
+unfolding beyondFound
+found-beyond l h entry room e = e ∙ rw (le-ltb (length entry) (length (marksOf l)) room)
+
+pub beyond-small : (l : List Float) (h : Model) {far : ℕ} → length l ≤ 8000 → far ≡ beyondOf l h → far ≤ 2000
+unfolding beyondOf
+beyond-small l h short e = let k = count l in let m = count-most (beyondUnder h) (marksOf l) in omega (arith, k, m, short, e)
 
 -- nothing is measured or written where there are over 2,000 marks
 pub over-many : (l : List Float) (h : Model) (thresh : Float) (squares : List Float) (indices : List ℕ) {n : ℕ} → n ≡ length (marksOf l) → 2000 ≤ length squares → length squares < n

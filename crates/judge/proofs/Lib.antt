@@ -1,3 +1,4 @@
 pub mod Ways
 pub mod View
 pub mod Left
+pub mod Beyond

@@ -7,27 +7,28 @@ use native.Mathlib.Numerals.{add-one}
 use native.Mathlib.Omega.{arith}
 use borrow.Author.Tests.{eq-eqb, ne-eqb, lt-ltb, le-ltb, le-leb, lt-leb, ltb-false, eqb-true, not-false}
 use lib.Dec.{T, ltb, eqb}
-use lib.ListN.{length, getD, length-map}
+use lib.ListN.{length, getD}
 use lib.Ieee.{Float}
 use Rattle.rule.specs.Refusal.{SHAPE, FEW, STOPS}
 use Rattle.rule.specs.Answer.{refused, gives}
 use Rattle.rule.specs.Lists.{filled}
-use Rattle.rule.specs.Order.{Test, firstFailed}
+use Rattle.rule.specs.Order.{Test, firstFailed, ifPassed}
 use Rattle.rule.proofs.Tests.{neither}
 use Rattle.rule.proofs.Order.{numbered, first-passed, one-failed, all-passed, kept, done, decided-gives, decided-refused}
 use Rattle.rule.proofs.Lists.{past-end}
 use Rattle.sheet.specs.Marks.{marksOf, shape, few}
 use Rattle.sheet.specs.declared.model.Model.{Model}
 use Rattle.sheet.proofs.Places.{count}
-use Rattle.book.specs.Score.{Options, countIn, scored, turned-down, countUnder, stopAt, standing, judgedBy, standsOf, Trial, judgeTrial, fitted, refitted}
+use Rattle.book.specs.Score.{Options, countIn, scored, turned-down, countUnder, stopAt, standing, judgedBy, standsOf, Trial, judgeTrial, beyondFit, fitted, refitted}
 use Rattle.book.proofs.Clear.{count-within}
 use Rattle.records.specs.Trial.{trialRecord, trialAnswer, trialOf, viewRecorded}
 use Rattle.records.specs.declared.trial.Recorded.{Recorded}
 use Rattle.records.specs.declared.trial.Recorded.the-variants as Recorded
 use Rattle.records.specs.declared.trial.Refitted.{Refitted}
 use Rattle.records.specs.declared.options.RansacOptions.{RansacOptions}
-use Rattle.measure.specs.Distances.{distancesOf, squaresOf}
-use Rattle.judge.specs.Judging.{ruleOf, Call, ofRun, entries, testedMarks, testedTests, worth, judgedBy as byTests, judgeTested, rmsUnder, squaresAfter, squaresLeft, viewFinding}
+use Rattle.measure.specs.Distances.{distancesOf, beyondOf, squaresOf}
+use Rattle.measure.proofs.Squares.{distances-count}
+use Rattle.judge.specs.Judging.{ruleOf, Call, ofRun, entries, testedMarks, testedTests, worth, judgedBy as byTests, judgeTested, beyondBy, rmsUnder, squaresAfter, squaresLeft, viewFinding}
 use Rattle.judge.specs.declared.Finding.{Finding}
 use Rattle.judge.specs.declared.Finding.the-variants.{Refused, Empty, Few, Scored}
 
@@ -104,10 +105,10 @@ module _ (o : RansacOptions) (l : List Float) (stops : List ℕ) where
   stop-past {k} h g = rw (ne-eqb k 0 h) (past-end stops k 0 g)
 
   pub count-small : length l ≤ 8000 → (m : Model) {k : ℕ} → k ≡ countUnder (ruleOf o) ds stops m → k ≤ 2000
-  unfolding countUnder ruleOf distancesOf
+  unfolding countUnder ruleOf
   count-small h m e =
       let a = count-within (o .thresh) (distancesOf l m) in
-      let b : length (distancesOf l m) ≡ length (marksOf l) = length-map (marksOf l) (Rattle.sheet.specs.Distance.distanceOf m) in
+      let b = distances-count l m in
       let c = count l in
       omega (arith, a, b, c, e, h)
 
@@ -134,12 +135,13 @@ module _ (o : RansacOptions) (l : List Float) (stops : List ℕ) where
   unfolding standsOf
   stands-unasked r fit refit w = rw w
 
-  -- What a trial comes to, and the list that it leaves. `s` is that list.
-  abbrev Came : Finding → List Float → Trial Model → List Float → Type 0
-  Came r s t entry = (viewFinding (rmsUnder o l) r ≡ judgeTrial (ruleOf o) ds stops t) × (s ≡ squaresAfter o l stops t entry)
+  -- What a trial comes to, how many marks are beyond under its fit, and the list that it leaves. `s` is that list.
+  abbrev Came : Finding → ℕ → List Float → Trial Model → List Float → Type 0
+  Came r far s t entry =
+      (viewFinding (rmsUnder o l) r ≡ judgeTrial (ruleOf o) ds stops t) × ((far ≡ beyondFit (beyondOf l) t) × (s ≡ squaresAfter o l stops t entry))
 
   module _ (entry : List Float) where
-    module _ (fit : Model) {k : ℕ} (is : k ≡ countUnder (ruleOf o) ds stops fit) where
+    module _ (fit : Model) {k far : ℕ} (is : k ≡ countUnder (ruleOf o) ds stops fit) (beyond : far ≡ beyondOf l fit) where
       few-judged : (stands : Model) → k < o .«min_inliers» → viewFinding (rmsUnder o l) (Few k) ≡ judgedBy (ruleOf o) ds stops fit stands
       unfolding viewFinding judgedBy ruleOf
       few-judged stands h = rw (← is, lt-ltb k (o .«min_inliers») h)
@@ -148,39 +150,39 @@ module _ (o : RansacOptions) (l : List Float) (stops : List ℕ) where
       unfolding judgedBy ruleOf
       enough-judged stands h = rw (← is, le-ltb k (o .«min_inliers») h)
 
-      pub fit-few : k < o .«min_inliers» → {s : List Float} → s ≡ filled (squaresOf l fit) entry → Came (Few k) s (fitted fit) entry
-      unfolding judgeTrial squaresAfter
-      fit-few h e = (few-judged fit h, e)
+      pub fit-few : k < o .«min_inliers» → {s : List Float} → s ≡ filled (squaresOf l fit) entry → Came (Few k) far s (fitted fit) entry
+      unfolding judgeTrial squaresAfter beyondFit
+      fit-few h e = (few-judged fit h, (beyond, e))
 
-      pub fit-scored : o .«min_inliers» ≤ k → {s : List Float} → s ≡ filled (squaresOf l fit) entry → (r : Finding) → viewFinding (rmsUnder o l) r ≡ scored (standing (ruleOf o) ds stops fit) → Came r s (fitted fit) entry
-      unfolding judgeTrial squaresAfter
-      fit-scored h e r v = (v ∙ enough-judged fit h, e)
+      pub fit-scored : o .«min_inliers» ≤ k → {s : List Float} → s ≡ filled (squaresOf l fit) entry → (r : Finding) → viewFinding (rmsUnder o l) r ≡ scored (standing (ruleOf o) ds stops fit) → Came r far s (fitted fit) entry
+      unfolding judgeTrial squaresAfter beyondFit
+      fit-scored h e r v = (v ∙ enough-judged fit h, (beyond, e))
 
       module _ (refit : Model) where
-        pub pair-few : k < o .«min_inliers» → {s : List Float} → s ≡ filled (squaresOf l fit) entry → Came (Few k) s (refitted fit refit) entry
-        unfolding judgeTrial squaresAfter
-        pair-few h e = (few-judged (standsOf (ruleOf o) ds stops fit refit) h, e ∙ rw (← is, lt-ltb k (o .«min_inliers») h))
+        pub pair-few : k < o .«min_inliers» → {s : List Float} → s ≡ filled (squaresOf l fit) entry → Came (Few k) far s (refitted fit refit) entry
+        unfolding judgeTrial squaresAfter beyondFit
+        pair-few h e = (few-judged (standsOf (ruleOf o) ds stops fit refit) h, (beyond, e ∙ rw (← is, lt-ltb k (o .«min_inliers») h)))
 
         -- scored, by the one that stands
         module _ (enough : o .«min_inliers» ≤ k) where
           pair-scored : {m : Model} → m ≡ standsOf (ruleOf o) ds stops fit refit → {s : List Float} → s ≡ filled (squaresOf l m) entry → (r : Finding)
-              → viewFinding (rmsUnder o l) r ≡ scored (standing (ruleOf o) ds stops m) → Came r s (refitted fit refit) entry
-          unfolding judgeTrial squaresAfter
+              → viewFinding (rmsUnder o l) r ≡ scored (standing (ruleOf o) ds stops m) → Came r far s (refitted fit refit) entry
+          unfolding judgeTrial squaresAfter beyondFit
           pair-scored {m} w e r v =
-              (v ∙ enough-judged m enough ∙ ap (judgedBy (ruleOf o) ds stops fit) w, e ∙ ap (λ x. filled (squaresOf l x) entry) w ∙ rw (← is, le-ltb k (o .«min_inliers») enough))
+              (v ∙ enough-judged m enough ∙ ap (judgedBy (ruleOf o) ds stops fit) w, (beyond, e ∙ ap (λ x. filled (squaresOf l x) entry) w ∙ rw (← is, le-ltb k (o .«min_inliers») enough)))
 
           pub refit-scored : {again : ℕ} → again ≡ countUnder (ruleOf o) ds stops refit → o .refit ≡ true → o .«min_inliers» ≤ again → {s : List Float} → s ≡ filled (squaresOf l refit) entry → (r : Finding)
-              → viewFinding (rmsUnder o l) r ≡ scored (standing (ruleOf o) ds stops refit) → Came r s (refitted fit refit) entry
+              → viewFinding (rmsUnder o l) r ≡ scored (standing (ruleOf o) ds stops refit) → Came r far s (refitted fit refit) entry
           unfolding ruleOf
           refit-scored e w h = pair-scored (stands-refit (ruleOf o) fit refit e w h)
 
           pub refit-low : {again : ℕ} → again ≡ countUnder (ruleOf o) ds stops refit → o .refit ≡ true → again < o .«min_inliers» → {s : List Float} → s ≡ filled (squaresOf l fit) entry → (r : Finding)
-              → viewFinding (rmsUnder o l) r ≡ scored (standing (ruleOf o) ds stops fit) → Came r s (refitted fit refit) entry
+              → viewFinding (rmsUnder o l) r ≡ scored (standing (ruleOf o) ds stops fit) → Came r far s (refitted fit refit) entry
           unfolding ruleOf
           refit-low e w h = pair-scored (stands-fit (ruleOf o) fit refit e w h)
 
           pub refit-unasked : o .refit ≡ false → {s : List Float} → s ≡ filled (squaresOf l fit) entry → (r : Finding)
-              → viewFinding (rmsUnder o l) r ≡ scored (standing (ruleOf o) ds stops fit) → Came r s (refitted fit refit) entry
+              → viewFinding (rmsUnder o l) r ≡ scored (standing (ruleOf o) ds stops fit) → Came r far s (refitted fit refit) entry
           unfolding ruleOf
           refit-unasked w = pair-scored (stands-unasked (ruleOf o) fit refit w)
 
@@ -197,18 +199,20 @@ module _ (o : RansacOptions) (n : ℕ) (c : Call) {k : ℕ} (first : k ≡ first
   unfolding numbered testedMarks ofRun shape few entries
   above-0 = tt
 
-  -- what the judge finds, and the list that it leaves
-  abbrev Finds : Finding → List Float → List Float → Type 0
-  Finds r s entry = (viewFinding (rmsUnder o (c .marks)) r ≡ judgeTested o n c) × (s ≡ squaresLeft o n c entry)
+  -- what the judge finds, the number beyond, and the list that it leaves
+  abbrev Finds : Finding → ℕ → List Float → List Float → Type 0
+  Finds r far s entry = (viewFinding (rmsUnder o (c .marks)) r ≡ judgeTested o n c) × ((far ≡ beyondBy (testedTests n c) c) × (s ≡ squaresLeft o n c entry))
 
-  turned : {j : ℕ} (entry : List Float) → j ≡ firstFailed (testedTests n c) → (j ≡ 0 → ⊥) → Finds (Refused j) entry entry
-  unfolding viewFinding judgeTested byTests squaresLeft
-  turned {j} entry e h = (
-    ap turned-down e ∙ kept (firstFailed (testedTests n c)) (worth o c) (turned-down (firstFailed (testedTests n c))) (λ z. h (e ∙ z)),
-    kept (firstFailed (testedTests n c)) (squaresAfter o (c .marks) (c .stops) (trialOf (c .bytes)) entry) entry (λ z. h (e ∙ z)),
-  )
+  turned : {j : ℕ} (entry : List Float) → j ≡ firstFailed (testedTests n c) → (j ≡ 0 → ⊥) → Finds (Refused j) 0 entry entry
+  unfolding viewFinding judgeTested byTests beyondBy squaresLeft
+  turned {j} entry e h =
+      let k = firstFailed (testedTests n c) in
+      let some : k ≡ 0 → ⊥ = λ z. h (e ∙ z) in (
+        ap turned-down e ∙ kept k (worth o c) (turned-down k) some,
+        (kept k (beyondFit (beyondOf (c .marks)) (trialOf (c .bytes))) 0 some, kept k (squaresAfter o (c .marks) (c .stops) (trialOf (c .bytes)) entry) entry some),
+      )
 
-  pub call-refused : (entry : List Float) → (k ≡ 0 → ⊥) → Finds (Refused k) entry entry
+  pub call-refused : (entry : List Float) → (k ≡ 0 → ⊥) → Finds (Refused k) 0 entry entry
   unfolding testedTests
   call-refused entry h = turned entry (first ∙ one-failed tests last (λ z. h (first ∙ z))) h
 
@@ -217,33 +221,47 @@ module _ (o : RansacOptions) (n : ℕ) (c : Call) {k : ℕ} (first : k ≡ first
     unfolding testedTests
     rest = all-passed tests last above-0 (sym first ∙ passed)
 
-    record-refused : {j : ℕ} → refused j ≡ trialAnswer (c .bytes) → Finds (Refused j) entry entry
+    record-refused : {j : ℕ} → refused j ≡ trialAnswer (c .bytes) → Finds (Refused j) 0 entry entry
     unfolding trialAnswer
     record-refused h = let d = decided-refused (firstFailed (trialRecord (c .bytes) ∷ [])) _ h in turned entry (d .0 ∙ rest) (λ z. d .1 (sym (d .0) ∙ z))
 
-    record-judged : {t : Trial Model} → gives t ≡ trialAnswer (c .bytes) → (r : Finding) (s : List Float) → Came o (c .marks) (c .stops) r s t entry → Finds r s entry
-    unfolding trialAnswer judgeTested byTests worth squaresLeft
-    record-judged {t} h r s came =
+    record-judged : {t : Trial Model} → gives t ≡ trialAnswer (c .bytes) → (r : Finding) (far : ℕ) (s : List Float) → Came o (c .marks) (c .stops) r far s t entry → Finds r far s entry
+    unfolding trialAnswer judgeTested byTests worth beyondBy squaresLeft
+    record-judged {t} h r far s came =
         let d = decided-gives (firstFailed (trialRecord (c .bytes) ∷ [])) h in
         let none = sym (d .0) ∙ rest in (
           came .0 ∙ ap (judgeTrial (ruleOf o) (distancesOf (c .marks)) (c .stops)) (d .1) ∙ done (worth o c) (turned-down (firstFailed (testedTests n c))) none,
-          came .1 ∙ ap (λ x. squaresAfter o (c .marks) (c .stops) x entry) (d .1) ∙ done (squaresAfter o (c .marks) (c .stops) (trialOf (c .bytes)) entry) entry none,
+          (
+            came .1 .0 ∙ ap (beyondFit (beyondOf (c .marks))) (d .1) ∙ done (beyondFit (beyondOf (c .marks)) (trialOf (c .bytes))) 0 none,
+            came .1 .1 ∙ ap (λ x. squaresAfter o (c .marks) (c .stops) x entry) (d .1) ∙ done (squaresAfter o (c .marks) (c .stops) (trialOf (c .bytes)) entry) entry none,
+          ),
         )
 
     -- by the case of the record's reader
     module _ {q : Recorded} (read : viewRecorded q ≡ trialAnswer (c .bytes)) where
-      pub case-refused : {j : ℕ} → q ≡ Recorded.Refused j → Finds (Refused j) entry entry
+      pub case-refused : {j : ℕ} → q ≡ Recorded.Refused j → Finds (Refused j) 0 entry entry
       unfolding viewRecorded
       case-refused e = record-refused (ap viewRecorded (sym e) ∙ read)
 
-      pub case-empty : q ≡ Recorded.Empty → Finds Empty entry entry
-      unfolding viewRecorded viewFinding judgeTrial squaresAfter
-      case-empty e = record-judged (ap viewRecorded (sym e) ∙ read) Empty entry (refl, refl)
+      pub case-empty : q ≡ Recorded.Empty → Finds Empty 0 entry entry
+      unfolding viewRecorded viewFinding judgeTrial squaresAfter beyondFit
+      case-empty e = record-judged (ap viewRecorded (sym e) ∙ read) Empty 0 entry (refl, (refl, refl))
 
-      pub case-fit : {m : Model} → q ≡ Recorded.Fit m → (r : Finding) (s : List Float) → Came o (c .marks) (c .stops) r s (fitted m) entry → Finds r s entry
+      pub case-fit : {m : Model} → q ≡ Recorded.Fit m → (r : Finding) (far : ℕ) (s : List Float) → Came o (c .marks) (c .stops) r far s (fitted m) entry → Finds r far s entry
       unfolding viewRecorded
       case-fit e = record-judged (ap viewRecorded (sym e) ∙ read)
 
-      pub case-refit : {p : Refitted} → q ≡ Recorded.Refit p → (r : Finding) (s : List Float) → Came o (c .marks) (c .stops) r s (refitted (p .fit) (p .refit)) entry → Finds r s entry
+      pub case-refit : {p : Refitted} → q ≡ Recorded.Refit p → (r : Finding) (far : ℕ) (s : List Float) → Came o (c .marks) (c .stops) r far s (refitted (p .fit) (p .refit)) entry → Finds r far s entry
       unfolding viewRecorded
       case-refit e = record-judged (ap viewRecorded (sym e) ∙ read)
+
+-- ---- two orders whose first failed test has the same number
+
+module _ (o : RansacOptions) (c : Call) (tests others : List Test) (same : firstFailed tests ≡ firstFailed others) where
+  pub judged-alike : byTests tests o c ≡ byTests others o c
+  unfolding byTests
+  judged-alike = ap (λ k. ifPassed k (worth o c) (turned-down k)) same
+
+  pub beyond-alike : beyondBy tests c ≡ beyondBy others c
+  unfolding beyondBy
+  beyond-alike = ap (λ k. ifPassed k (beyondFit (beyondOf (c .marks)) (trialOf (c .bytes))) 0) same

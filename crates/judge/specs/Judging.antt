@@ -12,10 +12,10 @@ use Rattle.root.specs.Root.{rootOf}
 use Rattle.sheet.specs.Marks.{marksOf, shape, few, marksTests}
 use Rattle.sheet.specs.declared.model.Model.{Model}
 use Rattle.book.specs.Score as Score
-use Rattle.book.specs.Score.{Options, Judged, turned-down, Trial, unfitted, fitted, refitted, squaresIn, rmsOf, rmsIn, countUnder, standsOf, judgeTrial}
+use Rattle.book.specs.Score.{Options, Judged, turned-down, Judgement, beyondFit, Trial, unfitted, fitted, refitted, squaresIn, rmsOf, rmsIn, countUnder, standsOf, judgeTrial}
 use Rattle.records.specs.Trial.{trialRecord, trialOf}
 use Rattle.records.specs.declared.options.RansacOptions.{RansacOptions}
-use Rattle.measure.specs.Distances.{distancesOf, squaresOf}
+use Rattle.measure.specs.Distances.{distancesOf, beyondOf, squaresOf}
 use Rattle.judge.specs.declared.Finding.{Finding}
 use Rattle.judge.specs.declared.Finding.the-variants as Findings
 use Rattle.judge.specs.declared.Standing.{Standing}
@@ -68,10 +68,20 @@ judgeOf o n c = judgedBy (callTests n c) o c
 unfoldable pub judgeTested : RansacOptions → ℕ → Call → Judged Model
 judgeTested o n c = judgedBy (testedTests n c) o c
 
+-- how many marks are beyond under the record's fit, where the tests pass
+unfoldable pub beyondBy : List Test → Call → ℕ
+beyondBy tests c = ifPassed (firstFailed tests) (beyondFit (beyondOf (c .marks)) (trialOf (c .bytes))) 0
+
+abbrev pub judgementOf : RansacOptions → ℕ → Call → Judgement Model
+judgementOf o n c = record { worth = judgeOf o n c; beyond = beyondBy (callTests n c) c }
+
+abbrev pub judgementTested : RansacOptions → ℕ → Call → Judgement Model
+judgementTested o n c = record { worth = judgeTested o n c; beyond = beyondBy (testedTests n c) c }
+
 unfoldable pub standingOf : Standing → Score.Standing Model
 standingOf s = record { model = s .model; count = s .count; rms = s .rms; stop = s .stop }
 
--- what each case of the judge's answer stands for
+-- what each case of the judge's verdict stands for
 unfoldable pub viewVerdict : Verdict → Judged Model
 viewVerdict (Refused k) = turned-down k
 viewVerdict Empty = Judged.empty

@@ -10,11 +10,10 @@ ghost use Prim.Native.Nat.{_≤_};
 ghost use lib.ListN.{length};
 ghost use Rattle.rule.specs.Lists.{filled};
 ghost use Rattle.rule.specs.Order.{firstFailed};
-ghost use Rattle.sheet.specs.Marks.{marksOf};
-ghost use Rattle.book.specs.Score.{Judged, scored, countIn, countUnder, stopAt, standing, judgeTrial, fitted, refitted};
-ghost use Rattle.measure.specs.Distances.{distancesOf, squaresOf};
+ghost use Rattle.book.specs.Score.{scored, countIn, countUnder, stopAt, standing, judgeTrial, beyondFit, fitted, refitted};
+ghost use Rattle.measure.specs.Distances.{distancesOf, beyondOf, squaresOf};
 ghost use Rattle.score.specs.Places.{indexCount, indexed};
-ghost use Rattle.judge.specs.Judging.{ruleOf, testedMarks, rmsUnder, judgeTested, squaresAfter, squaresLeft, supportWith, viewFinding, viewVerdict};
+ghost use Rattle.judge.specs.Judging.{ruleOf, testedMarks, testedTests, rmsUnder, judgeTested, beyondBy, squaresAfter, squaresLeft, supportWith, viewFinding, viewVerdict};
 
 // The model that stands, its own count and root mean square, and the stop entry of the count.
 pub struct Standing {
@@ -24,12 +23,18 @@ pub struct Standing {
     pub stop: u32,
 }
 
-// What `judge` answers: the number of the refusal, no fit, too few marks and how many, or scored.
+// The number of the refusal, no fit, too few marks and how many, or scored.
 pub enum Verdict {
     Refused(u32),
     Empty,
     Few(u32),
     Scored(Standing),
+}
+
+// What `judge` answers: the verdict, and how many marks are beyond under the fit.
+pub struct Judgement {
+    pub verdict: Verdict,
+    pub beyond: u32,
 }
 
 // The same without the root mean square, which takes roots and isn't always asked for.
@@ -39,12 +44,23 @@ pub struct Support {
     pub stop: u32,
 }
 
-// What `count_support` answers.
 pub enum Finding {
     Refused(u32),
     Empty,
     Few(u32),
     Scored(Support),
+}
+
+// What `count_support` answers.
+pub struct Found {
+    pub finding: Finding,
+    pub beyond: u32,
+}
+
+// How many marks are within the threshold under a model, and how many are beyond.
+struct Counted {
+    within: usize,
+    beyond: u32,
 }
 
 // The tests that take no walk over the marks, in order: 0 where they pass, else the number of the
@@ -80,15 +96,21 @@ fn stop_at(o: RansacOptions, marks: &[f64], stops: &[u32], count: usize) -> u32
     if count < stops.len() { stops[count] } else { 0 }
 }
 
-// Measures a model, and counts the marks that are within the threshold under it.
-fn count_under(h: Model, thresh: f64, marks: &[f64], squares: &mut [f64]) -> usize
-    requires { ⌜ length (marksOf (now marks)) ≤ length (now squares) ⌝ }
-    ensures { λ r. ⌜ r ≡ countIn thresh (distancesOf (now (marks .entry)) h) ⌝ }
+// Measures a model, and counts the marks that are within the threshold under it and those beyond.
+fn count_under(h: Model, thresh: f64, marks: &[f64], squares: &mut [f64]) -> Counted
+    requires { ⌜ length (now marks) ≤ 8000 ⌝ }
+    requires { ⌜ 2000 ≤ length (now squares) ⌝ }
+    ensures { λ r. ⌜ r .within ≡ countIn thresh (distancesOf (now (marks .entry)) h) ⌝ }
+    ensures { λ r. ⌜ r .beyond ≡ beyondOf (now (marks .entry)) h ⌝ }
     ensures { λ _. ⌜ now (squares .exit) ≡ filled (squaresOf (now (marks .entry)) h) (now (squares .entry)) ⌝ }
 {
-    measure::squared_residuals(h, marks, squares);
+    let beyond = measure::squared_residuals(h, marks, squares);
     let n = sheet::mark_count(marks);
-    score::count_inliers(thresh, &squares[..n])
+    let within = score::count_inliers(thresh, &squares[..n]);
+    Counted {
+        within,
+        beyond: beyond as u32,
+    }
 }
 
 // Scored, by a model that stands and its count.
@@ -117,48 +139,70 @@ fn count_fit(
     marks: &[f64],
     stops: &[u32],
     squares: &mut [f64; 2000],
-) -> Finding
+) -> Found
     requires { ⌜ length (now marks) ≤ 8000 ⌝ }
-    ensures { λ r. ⌜ viewFinding (rmsUnder o (now (marks .entry))) r ≡ judgeTrial (ruleOf o) (distancesOf (now (marks .entry))) (now (stops .entry)) (fitted fit) ⌝ }
+    ensures { λ r. ⌜ viewFinding (rmsUnder o (now (marks .entry))) (r .finding) ≡ judgeTrial (ruleOf o) (distancesOf (now (marks .entry))) (now (stops .entry)) (fitted fit) ⌝ }
+    ensures { λ r. ⌜ r .beyond ≡ beyondFit (beyondOf (now (marks .entry))) (fitted fit) ⌝ }
     ensures { λ _. ⌜ now (squares .exit) ≡ squaresAfter o (now (marks .entry)) (now (stops .entry)) (fitted fit) (now (squares .entry)) ⌝ }
 {
-    let count = count_under(fit, o.thresh, marks, squares);
-    if count < o.min_inliers as usize {
-        return Finding::Few(count as u32);
+    let c = count_under(fit, o.thresh, marks, squares);
+    let beyond = c.beyond;
+    if c.within < o.min_inliers as usize {
+        return Found {
+            finding: Finding::Few(c.within as u32),
+            beyond,
+        };
     }
-    supported_by(o, fit, count, marks, stops)
+    Found {
+        finding: supported_by(o, fit, c.within, marks, stops),
+        beyond,
+    }
 }
 
 // The refit stands if options ask for it and its own count reaches min_inliers, even if it is lower
 // than the fit's. Where it doesn't, the fit is measured again: the list has the squares of the model
-// that stands.
+// that stands. The marks beyond are those under the fit, whichever stands.
 fn count_refit(
     o: RansacOptions,
     pair: Refitted,
     marks: &[f64],
     stops: &[u32],
     squares: &mut [f64; 2000],
-) -> Finding
+) -> Found
     requires { ⌜ length (now marks) ≤ 8000 ⌝ }
-    ensures { λ r. ⌜ viewFinding (rmsUnder o (now (marks .entry))) r ≡ judgeTrial (ruleOf o) (distancesOf (now (marks .entry))) (now (stops .entry)) (refitted (pair .fit) (pair .refit)) ⌝ }
+    ensures { λ r. ⌜ viewFinding (rmsUnder o (now (marks .entry))) (r .finding) ≡ judgeTrial (ruleOf o) (distancesOf (now (marks .entry))) (now (stops .entry)) (refitted (pair .fit) (pair .refit)) ⌝ }
+    ensures { λ r. ⌜ r .beyond ≡ beyondFit (beyondOf (now (marks .entry))) (refitted (pair .fit) (pair .refit)) ⌝ }
     ensures { λ _. ⌜ now (squares .exit) ≡ squaresAfter o (now (marks .entry)) (now (stops .entry)) (refitted (pair .fit) (pair .refit)) (now (squares .entry)) ⌝ }
 {
     let least = o.min_inliers as usize;
     let fit = pair.fit;
-    let count = count_under(fit, o.thresh, marks, squares);
-    if count < least {
-        return Finding::Few(count as u32);
+    let c = count_under(fit, o.thresh, marks, squares);
+    let beyond = c.beyond;
+    if c.within < least {
+        return Found {
+            finding: Finding::Few(c.within as u32),
+            beyond,
+        };
     }
     if !o.refit {
-        return supported_by(o, fit, count, marks, stops);
+        return Found {
+            finding: supported_by(o, fit, c.within, marks, stops),
+            beyond,
+        };
     }
     let refit = pair.refit;
     let again = count_under(refit, o.thresh, marks, squares);
-    if again < least {
+    if again.within < least {
         measure::squared_residuals(fit, marks, squares);
-        return supported_by(o, fit, count, marks, stops);
+        return Found {
+            finding: supported_by(o, fit, c.within, marks, stops),
+            beyond,
+        };
     }
-    supported_by(o, refit, again, marks, stops)
+    Found {
+        finding: supported_by(o, refit, again.within, marks, stops),
+        beyond,
+    }
 }
 
 // Judges a trial of a run of `n` marks but for the root mean square, and leaves the squares of the
@@ -171,17 +215,27 @@ pub fn count_support(
     marks: &[f64],
     stops: &[u32],
     squares: &mut [f64; 2000],
-) -> Finding
-    ensures { λ r. ⌜ viewFinding (rmsUnder o (now (marks .entry))) r ≡ judgeTested o n (record { bytes = now (bytes .entry); marks = now (marks .entry); stops = now (stops .entry) }) ⌝ }
+) -> Found
+    ensures { λ r. ⌜ viewFinding (rmsUnder o (now (marks .entry))) (r .finding) ≡ judgeTested o n (record { bytes = now (bytes .entry); marks = now (marks .entry); stops = now (stops .entry) }) ⌝ }
+    ensures { λ r. ⌜ r .beyond ≡ beyondBy (testedTests n (record { bytes = now (bytes .entry); marks = now (marks .entry); stops = now (stops .entry) })) (record { bytes = now (bytes .entry); marks = now (marks .entry); stops = now (stops .entry) }) ⌝ }
     ensures { λ _. ⌜ now (squares .exit) ≡ squaresLeft o n (record { bytes = now (bytes .entry); marks = now (marks .entry); stops = now (stops .entry) }) (now (squares .entry)) ⌝ }
 {
     let refusal = check_call(n, marks, stops);
     if refusal != 0 {
-        return Finding::Refused(refusal);
+        return Found {
+            finding: Finding::Refused(refusal),
+            beyond: 0,
+        };
     }
     match records::read_trial(bytes) {
-        Recorded::Refused(k) => Finding::Refused(k),
-        Recorded::Empty => Finding::Empty,
+        Recorded::Refused(k) => Found {
+            finding: Finding::Refused(k),
+            beyond: 0,
+        },
+        Recorded::Empty => Found {
+            finding: Finding::Empty,
+            beyond: 0,
+        },
         Recorded::Fit(fit) => count_fit(o, fit, marks, stops, squares),
         Recorded::Refit(pair) => count_refit(o, pair, marks, stops, squares),
     }
@@ -202,15 +256,31 @@ fn scored_with(s: Support, thresh: f64, squares: &[f64]) -> Verdict
 }
 
 // Judges a trial of a run of `n` marks. The numbers of the marks are not tested either.
-pub fn judge(o: RansacOptions, n: usize, bytes: &[u8], marks: &[f64], stops: &[u32]) -> Verdict
-    ensures { λ r. ⌜ viewVerdict r ≡ judgeTested o n (record { bytes = now (bytes .entry); marks = now (marks .entry); stops = now (stops .entry) }) ⌝ }
+pub fn judge(o: RansacOptions, n: usize, bytes: &[u8], marks: &[f64], stops: &[u32]) -> Judgement
+    ensures { λ r. ⌜ viewVerdict (r .verdict) ≡ judgeTested o n (record { bytes = now (bytes .entry); marks = now (marks .entry); stops = now (stops .entry) }) ⌝ }
+    ensures { λ r. ⌜ r .beyond ≡ beyondBy (testedTests n (record { bytes = now (bytes .entry); marks = now (marks .entry); stops = now (stops .entry) })) (record { bytes = now (bytes .entry); marks = now (marks .entry); stops = now (stops .entry) }) ⌝ }
 {
     let mut squares = [0.0; 2000];
-    match count_support(o, n, bytes, marks, stops, &mut squares) {
-        Finding::Refused(k) => Verdict::Refused(k),
-        Finding::Empty => Verdict::Empty,
-        Finding::Few(count) => Verdict::Few(count),
-        Finding::Scored(s) => scored_with(s, o.thresh, &squares[..n]),
+    let found = count_support(o, n, bytes, marks, stops, &mut squares);
+    let beyond = found.beyond;
+    let finding = found.finding;
+    match finding {
+        Finding::Refused(k) => Judgement {
+            verdict: Verdict::Refused(k),
+            beyond,
+        },
+        Finding::Empty => Judgement {
+            verdict: Verdict::Empty,
+            beyond,
+        },
+        Finding::Few(count) => Judgement {
+            verdict: Verdict::Few(count),
+            beyond,
+        },
+        Finding::Scored(s) => Judgement {
+            verdict: scored_with(s, o.thresh, &squares[..n]),
+            beyond,
+        },
     }
 }
 

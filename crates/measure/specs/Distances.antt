@@ -1,16 +1,24 @@
--- Document 01, 'Trials': the distances of a list of marks under a sheet's model, and the squares that they are the roots of.
+-- Document 01, 'Trials', and document 02, order 2: the distances of a list of marks under a sheet's model, the squares that they are the roots of, and how many
+-- of the marks are beyond.
 use mathlib.Core.Bool.{cond}
 use mathlib.Core.List.{List, map}
+use Prim.Native.Nat.{ℕ}
+use lib.Dec.{ltb}
+use lib.ListN.{length}
 use lib.Ieee.{Float, lt}
+use Rattle.rule.specs.Lists.{countOf}
 use Rattle.numbers.specs.Constants.{zero′, infinity}
 use Rattle.sheet.specs.Marks.{marksOf, pointOf, squaredApart}
-use Rattle.sheet.specs.Distance.{projectionOf, distanceOf}
+use Rattle.sheet.specs.Distance.{projectionOf, beyondUnder, distanceOf}
 use Rattle.sheet.specs.declared.marks.Mark.{Mark}
 use Rattle.sheet.specs.declared.marks.Side.the-variants.{Sheet, Pixel}
 use Rattle.sheet.specs.declared.model.Model.{Model}
 
 unfoldable pub distancesOf : List Float → Model → List Float
 distancesOf l h = map (distanceOf h) (marksOf l)
+
+unfoldable pub beyondOf : List Float → Model → ℕ
+beyondOf l h = countOf (beyondUnder h) (marksOf l)
 
 -- the square that the distance is the root of
 unfoldable pub squaredOf : Model → Mark → Float
@@ -20,3 +28,7 @@ squaredOf h m =
 
 unfoldable pub squaresOf : List Float → Model → List Float
 squaresOf l h = map (squaredOf h) (marksOf l)
+
+-- how many are found beyond, with a lent list: none where it has not a place for each mark, since nothing is measured then
+unfoldable pub beyondFound : List Float → Model → (entry : List Float) → ℕ
+beyondFound l h entry = cond (ltb (length entry) (length (marksOf l))) 0 (beyondOf l h)

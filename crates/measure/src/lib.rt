@@ -1,38 +1,58 @@
-// The measuring of a sheet's marks under a model (document 01, 'Distance'): the square of each mark's
-// distance, in a list that is lent. It is all that scoring sees of the model, the mark and the
-// distance. No root is taken here, and there is no threshold.
+// The measuring of a sheet's marks under a model (document 01, 'Distance', and document 02, order 2):
+// the square of each mark's distance, in a list that is lent, and how many marks are beyond. It is all
+// that scoring sees of the model, the mark and the distance. No root is taken here, and there is no
+// threshold.
 use sheet::Mark;
 use sheet::Model;
 use sheet::Side;
 ghost use mathlib.Core.Path.{_≡_};
+ghost use mathlib.Core.Bool.{cond};
+ghost use Prim.Native.Nat.{_≤_};
 ghost use Rattle.rule.specs.Lists.{filled};
-ghost use Rattle.measure.specs.Distances.{squaredOf, squaresOf};
+ghost use Rattle.sheet.specs.Distance.{beyondUnder};
+ghost use Rattle.measure.specs.Distances.{squaredOf, squaresOf, beyondFound};
 
-// The square of the distance; infinite unless s > 0. It is worked out either way, so that the compiler
-// has a choice of two numbers and no jump.
-fn squared_residual(h: Model, m: Mark) -> f64
-    ensures { λ r. ⌜ r ≡ squaredOf h m ⌝ }
+// The square of a mark's distance, infinite where the mark is beyond, and how many are: one or none.
+struct Squared {
+    square: f64,
+    beyond: usize,
+}
+
+// Beyond unless s > 0. The square is worked out either way, so that the compiler has a choice of two
+// numbers and no jump.
+fn squared_residual(h: Model, m: Mark) -> Squared
+    ensures { λ r. ⌜ r .square ≡ squaredOf h m ⌝ }
+    ensures { λ r. ⌜ (r .beyond ≡ cond (beyondUnder h m) 1 0) × (r .beyond ≤ 1) ⌝ }
 {
     let to = sheet::project(h, sheet::point_of(m, Side::Sheet));
     let square = sheet::squared_apart(to.at, sheet::point_of(m, Side::Pixel));
     if to.s > 0.0 {
-        square
+        Squared { square, beyond: 0 }
     } else {
-        f64::from_bits(0x7ff0_0000_0000_0000)
+        Squared {
+            square: f64::from_bits(0x7ff0_0000_0000_0000),
+            beyond: 1,
+        }
     }
 }
 
-// Writes the square of each mark's distance to the front of `squares`, if it has a place for each.
-pub fn squared_residuals(h: Model, marks: &[f64], squares: &mut [f64])
+// Writes the square of each mark's distance to the front of `squares`, and answers how many marks are
+// beyond; if it has not a place for each, it writes nothing and answers 0.
+pub fn squared_residuals(h: Model, marks: &[f64], squares: &mut [f64]) -> usize
+    ensures { λ r. ⌜ r ≡ beyondFound (now (marks .entry)) h (now (squares .entry)) ⌝ }
     ensures { λ _. ⌜ now (squares .exit) ≡ filled (squaresOf (now (marks .entry)) h) (now (squares .entry)) ⌝ }
 {
     let n = sheet::mark_count(marks);
     if squares.len() < n {
-        return;
+        return 0;
     }
+    let mut beyond = 0;
     let mut i = 0;
     while i < n {
-        squares[i] = squared_residual(h, sheet::mark_at(marks, i));
+        let q = squared_residual(h, sheet::mark_at(marks, i));
+        squares[i] = q.square;
+        beyond += q.beyond;
         i += 1;
     }
+    beyond
 }

@@ -1,6 +1,6 @@
 -- What an accepted opening promises of the calls after it, with the same marks: `steps-as-trial`, that a call without test 6 (`step`) answers as one with it
 -- (`trial`) does, on every state; and `indices-written`, that the indices of a winner that is held are written where there is a place a mark. Assumes nothing.
-use mathlib.Core.Path.{_≡_, refl, sym, ap}
+use mathlib.Core.Path.{_≡_, refl, sym, ap, ap₂}
 use mathlib.Core.Bool.{false}
 use mathlib.Core.List.{List, [], _∷_}
 use Prim.Native.Nat.{ℕ, _≤_}
@@ -8,18 +8,19 @@ use borrow.Author.Tests.{le-ltb, eq-eqb}
 use lib.ListN.{length}
 use lib.Ieee.{Float}
 use Rattle.rule.specs.Answer.{gives}
-use Rattle.rule.specs.Order.{Test, firstFailed, ifPassed, room}
+use Rattle.rule.specs.Order.{Test, firstFailed, room}
 use Rattle.rule.proofs.Order.{first-passed, decided-gives, decided-none}
 use Rattle.sheet.specs.Marks.{marksOf, shape, point, few, marksTests}
 use Rattle.sheet.specs.declared.model.Model.{Model}
-use Rattle.book.specs.Score.{turned-down}
+use Rattle.book.specs.Score.{Judged}
 use Rattle.book.specs.Book.{Winner, held}
 use Rattle.records.specs.Options.{thresh, confidence, iters, optionsTests}
 use Rattle.records.specs.Trial.{trialRecord}
 use Rattle.records.specs.declared.options.RansacOptions.{RansacOptions}
 use Rattle.measure.specs.Distances.{distancesOf}
 use Rattle.score.specs.Places.{indicesIn}
-use Rattle.judge.specs.Judging.{Call, ofRun, entries, callTests, testedMarks, testedTests, worth, judgedBy, judgeOf, judgeTested}
+use Rattle.judge.specs.Judging.{Call, ofRun, entries, callTests, testedMarks, testedTests, judgeOf, judgeTested, judgementOf, judgementTested}
+use Rattle.judge.proofs.Ways.{judged-alike, beyond-alike}
 use Rattle.pick.specs.Run.{viewBest, bookOf, viewState}
 use Rattle.pick.specs.Opening.{openingTests, openingAnswer, viewOpened}
 use Rattle.pick.specs.Trial.{triedWith, trialAnswer, stepAnswer}
@@ -60,13 +61,14 @@ module _ (o : RansacOptions) (l : List Float) (table : List ℕ) where
         go : (t : Test) (rest : List Test) → firstFailed (t ∷ shape l ∷ rest) ≡ firstFailed (t ∷ shape l ∷ point l ∷ rest)
         go t rest = rw (accepted .points)
 
-    same-worth : (p : RansacOptions) (n : ℕ) (c : Call) → c .marks ≡ l → judgeTested p n c ≡ judgeOf p n c
-    unfolding judgeTested judgeOf judgedBy
-    same-worth p n c e = ap (λ k. ifPassed k (worth p c) (turned-down k)) (same-tests n c e)
+    same-judgement : (p : RansacOptions) (n : ℕ) (c : Call) → c .marks ≡ l → judgementTested p n c ≡ judgementOf p n c
+    unfolding judgeTested judgeOf
+    same-judgement p n c e =
+        ap₂ (λ (j : Judged Model) (far : ℕ). record { worth = j; beyond = far }) (judged-alike p c _ _ (same-tests n c e)) (beyond-alike p c _ _ (same-tests n c e))
 
     pub steps-as-trial : (s : State) (c : Call) → c .marks ≡ l → stepAnswer (viewState s) c ≡ trialAnswer (viewState s) c
     unfolding stepAnswer trialAnswer viewState
-    steps-as-trial s c e = ap (triedWith (viewState s)) (same-worth (s .options) (s .n) c e)
+    steps-as-trial s c e = ap (triedWith (viewState s)) (same-judgement (s .options) (s .n) c e)
 
     -- ---- the indices
 

@@ -1,11 +1,11 @@
 -- What the book makes of a judged trial, on a state: one law for each way out. Assumes nothing.
-use mathlib.Core.Path.{_≡_, refl, _∙_}
+use mathlib.Core.Path.{_≡_, refl, ap, _∙_}
 use mathlib.Core.Bool.{Bool, true, false}
 use Prim.Native.Nat.{ℕ, _+_}
 use native.Mathlib.Numerals.{add-one}
 use Rattle.rule.specs.Refusal.{ENDED}
 use Rattle.sheet.specs.declared.model.Model.{Model}
-use Rattle.book.specs.Score.{Judged, turned-down, scored}
+use Rattle.book.specs.Score.{Judged, turned-down, scored, Judgement}
 use Rattle.book.specs.Score as Score
 use Rattle.book.specs.Book.{Held as HeldBy, is-refused, boundAfter, isBetter, beats, winnerAfter, scoredAnswer, entered}
 use Rattle.book.specs.Calls.{closedAt, isClosed, tried}
@@ -14,14 +14,15 @@ use Rattle.judge.specs.Judging.{ruleOf, standingOf, viewVerdict}
 use Rattle.judge.specs.declared.Standing.{Standing}
 use Rattle.judge.specs.declared.Verdict.{Verdict}
 use Rattle.judge.specs.declared.Verdict.the-variants as Verdicts
-use Rattle.pick.specs.Run.{viewWinner, viewBest, bookOf, viewState, viewOutcome, viewTried}
-use Rattle.pick.specs.Trial.{answerOf, triedWith, scoredRun}
+use Rattle.pick.specs.Run.{Booking, viewWinner, viewBest, bookOf, viewState, viewOutcome, viewBooked, viewTried}
+use Rattle.pick.specs.Trial.{bookingOf, triedIn, answerOf, triedWith, scoredRun}
 use Rattle.pick.specs.declared.run_state.Winner.{Winner}
 use Rattle.pick.specs.declared.run_state.Best.{Best}
 use Rattle.pick.specs.declared.run_state.Best.the-variants.{Nothing, Held}
 use Rattle.pick.specs.declared.run_state.State.{State}
 use Rattle.pick.specs.declared.run_state.Outcome.{Outcome}
 use Rattle.pick.specs.declared.run_state.Outcome.the-variants as Outcomes
+use Rattle.pick.specs.declared.run_state.Booked.{Booked}
 use Rattle.pick.specs.declared.run_state.Tried.{Tried}
 
 -- ---- the end
@@ -60,32 +61,32 @@ module _ (s : Standing) where
 
 -- ---- the state after a judged trial, and the outcome
 
-abbrev Books : State → Tried → Judged Model → Type 0
-Books s r j = viewTried r ≡ answerOf (viewState s) (entered (ruleOf (s .options)) (bookOf s) j)
+abbrev Books : State → Booked → Judged Model → Type 0
+Books s r j = viewBooked r ≡ bookingOf (viewState s) (entered (ruleOf (s .options)) (bookOf s) j)
 
 module _ (s : State) where
-  pub turned : (k : ℕ) → viewTried (record { state = s; outcome = Outcomes.Refused k }) ≡ answerOf (viewState s) (record { book = bookOf s; answer = is-refused k })
-  unfolding viewTried viewOutcome viewState answerOf
+  pub turned : (k : ℕ) → viewTried (record { state = s; outcome = Outcomes.Refused k; beyond = 0 }) ≡ answerOf (bookingOf (viewState s) (record { book = bookOf s; outcome = is-refused k })) 0
+  unfolding viewTried viewOutcome viewState bookingOf answerOf
   turned k = refl
 
   pub emptied : Books s (record { state = record { options = s .options; n = s .n; read = s .read + 1; empty = s .empty + 1; few = s .few; scored = s .scored; bound = s .bound; winner = s .winner }; outcome = Outcomes.Empty }) Judged.empty
-  unfolding viewTried viewOutcome viewState bookOf answerOf entered
+  unfolding viewBooked viewOutcome viewState bookOf bookingOf entered
   emptied = rw (add-one (s .read), add-one (s .empty))
 
   pub fewed : (count : ℕ) → Books s (record { state = record { options = s .options; n = s .n; read = s .read + 1; empty = s .empty; few = s .few + 1; scored = s .scored; bound = s .bound; winner = s .winner }; outcome = Outcomes.Few count }) (Judged.few count)
-  unfolding viewTried viewOutcome viewState bookOf answerOf entered
+  unfolding viewBooked viewOutcome viewState bookOf bookingOf entered
   fewed count = rw (add-one (s .read), add-one (s .few))
 
   -- a scored trial, whatever it was scored by
   pub scored-run : (t : Score.Standing Model) (state : State) {winner : HeldBy Model} → viewState state ≡ scoredRun (viewState s) winner (t .stop) → winner ≡ winnerAfter t (s .read + 1) (viewBest (s .winner))
-      → viewState state ≡ answerOf (viewState s) (entered (ruleOf (s .options)) (bookOf s) (scored t)) .run
-  unfolding viewState bookOf answerOf entered ruleOf scoredRun
+      → viewState state ≡ bookingOf (viewState s) (entered (ruleOf (s .options)) (bookOf s) (scored t)) .run
+  unfolding viewState bookOf bookingOf entered ruleOf scoredRun
   scored-run t state e w = e ∙ rw (w, add-one (s .read))
 
   pub scored-up : (t : Standing) (state : State) (winner : Best) (outcome : Outcome) → viewState state ≡ scoredRun (viewState s) (viewBest winner) (t .stop)
       → viewBest winner ≡ winnerAfter (standingOf t) (s .read + 1) (viewBest (s .winner)) → viewOutcome outcome ≡ scoredAnswer (standingOf t) (viewBest (s .winner))
       → Books s (record { state = state; outcome = outcome }) (scored (standingOf t))
-  unfolding viewTried answerOf entered standingOf bookOf
+  unfolding viewBooked bookingOf entered standingOf bookOf
   scored-up t state winner outcome e w a = rw (scored-run (standingOf t) state e w, a)
 
   pub scored-state : (winner : Best) {bound : ℕ} (stop : ℕ) → bound ≡ boundAfter (s .options .«max_iters») (s .read + 1) stop
@@ -93,12 +94,12 @@ module _ (s : State) where
   unfolding viewState bookOf scoredRun
   scored-state winner stop b = rw (b, add-one (s .read), add-one (s .scored))
 
-  -- by the case of the judge's answer
-  module _ (v : Verdict) (r : Tried) where
-    pub books-refused : {k : ℕ} → v ≡ Verdicts.Refused k → viewTried r ≡ answerOf (viewState s) (record { book = bookOf s; answer = is-refused k }) → Books s r (viewVerdict v)
-    unfolding viewVerdict entered
-    books-refused e h = rw e h
+  -- by the case of the verdict
+  pub books-refused : (v : Verdict) {k : ℕ} → v ≡ Verdicts.Refused k → Books s (record { state = s; outcome = Outcomes.Refused k }) (viewVerdict v)
+  unfolding viewVerdict entered viewBooked viewOutcome viewState bookingOf
+  books-refused v e = rw e
 
+  module _ (v : Verdict) (r : Booked) where
     pub books-empty : v ≡ Verdicts.Empty → Books s r Judged.empty → Books s r (viewVerdict v)
     unfolding viewVerdict
     books-empty e h = rw e h
@@ -111,17 +112,25 @@ module _ (s : State) where
     unfolding viewVerdict
     books-scored e h = rw e h
 
+  -- with the number beyond
+  pub answered-with : (j : Judged Model) (far : ℕ) (r : Booked) → Books s r j
+      → viewTried (record { state = r .state; outcome = r .outcome; beyond = far }) ≡ answerOf (bookingOf (viewState s) (entered (ruleOf (s .options)) (bookOf s) j)) far
+  unfolding viewTried viewBooked answerOf
+  answered-with j far r h = ap (λ (b : Booking). answerOf b far) h
+
   -- ---- a whole call
 
   module _ {b : Bool} (tested : b ≡ closedAt (s .read) (s .empty) (s .few) (s .scored) (s .bound)) (r : Tried) where
-    pub late : b ≡ true → viewTried r ≡ answerOf (viewState s) (record { book = bookOf s; answer = is-refused ENDED }) → (j : Judged Model) → viewTried r ≡ triedWith (viewState s) j
-    unfolding triedWith tried isClosed viewState bookOf
+    pub late : b ≡ true → viewTried r ≡ answerOf (bookingOf (viewState s) (record { book = bookOf s; outcome = is-refused ENDED })) 0 → (j : Judgement Model) → viewTried r ≡ triedWith (viewState s) j
+    unfolding triedWith triedIn tried isClosed viewState bookOf
     late h e j = e ∙ rw (← tested, h)
 
-    pub in-time : b ≡ false → {j k : Judged Model} → j ≡ k → Books s r j → viewTried r ≡ triedWith (viewState s) k
-    unfolding triedWith tried isClosed viewState bookOf
-    in-time h f e = e ∙ rw (← tested, h, f)
+    pub in-time : b ≡ false → {j : Judged Model} {far : ℕ} {k : Judgement Model} → (j ≡ k .worth) × (far ≡ k .beyond)
+        → viewTried r ≡ answerOf (bookingOf (viewState s) (entered (ruleOf (s .options)) (bookOf s) j)) far → viewTried r ≡ triedWith (viewState s) k
+    unfolding triedWith triedIn tried isClosed viewState bookOf
+    in-time h f e = e ∙ rw (← tested, h, f .0, f .1)
 
-    pub early-refused : b ≡ false → (k : ℕ) {j : Judged Model} → turned-down k ≡ j → viewTried r ≡ answerOf (viewState s) (record { book = bookOf s; answer = is-refused k }) → viewTried r ≡ triedWith (viewState s) j
-    unfolding triedWith tried isClosed viewState bookOf entered
-    early-refused h k f e = e ∙ rw (← tested, h, ← f)
+    pub early-refused : b ≡ false → (k : ℕ) {j : Judgement Model} → (turned-down k ≡ j .worth) × (0 ≡ j .beyond)
+        → viewTried r ≡ answerOf (bookingOf (viewState s) (record { book = bookOf s; outcome = is-refused k })) 0 → viewTried r ≡ triedWith (viewState s) j
+    unfolding triedWith triedIn tried isClosed viewState bookOf entered
+    early-refused h k f e = e ∙ rw (← tested, h, ← f .0, ← f .1)

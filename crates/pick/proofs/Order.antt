@@ -10,18 +10,19 @@ use lib.Dec.{T, ltb, eqb}
 use lib.ListN.{length}
 use lib.Ieee.{Float}
 use Rattle.rule.specs.Refusal.{SHAPE, FEW, STOPS, ROOM}
-use Rattle.rule.specs.Order.{Test, firstFailed, ifPassed, room}
+use Rattle.rule.specs.Order.{Test, firstFailed, room}
 use Rattle.rule.proofs.Tests.{neither}
 use Rattle.rule.proofs.Order.{stops, passes, first-passed, numbered, one-failed, all-passed, too-small, large-enough, kept}
 use Rattle.sheet.specs.Marks.{marksOf, shape, few, marksTests}
+use Rattle.sheet.specs.declared.model.Model.{Model}
 use Rattle.sheet.proofs.Places.{count}
 use Rattle.sheet.proofs.Refused.{marks-failed, marks-passed}
-use Rattle.book.specs.Score.{turned-down}
+use Rattle.book.specs.Score.{Judged, turned-down}
 use Rattle.records.specs.Options.{thresh, confidence, iters, optionsTests}
 use Rattle.records.specs.Trial.{trialRecord}
 use Rattle.records.specs.declared.options.RansacOptions.{RansacOptions}
-use Rattle.judge.proofs.Ways.{run-passed}
-use Rattle.judge.specs.Judging.{Call, ofRun, entries, callTests, testedMarks, testedTests, worth, judgedBy, judgeOf, judgeTested}
+use Rattle.judge.proofs.Ways.{run-passed, judged-alike, beyond-alike}
+use Rattle.judge.specs.Judging.{Call, ofRun, entries, callTests, testedMarks, testedTests, worth, judgedBy, judgeOf, judgeTested, beyondBy}
 use Rattle.pick.specs.Opening.{openingTests}
 use Rattle.pick.specs.Indices.{marksOrder}
 
@@ -65,9 +66,17 @@ module _ (o : RansacOptions) (n : ℕ) {k : ℕ} (c : Call) (marks : k ≡ lengt
   unfolding judgeOf judgedBy
   by-number {j} e h = ap turned-down e ∙ kept (firstFailed (callTests n c)) (worth o c) (turned-down (firstFailed (callTests n c))) (λ z. h (e ∙ z))
 
-  pub other-run : (k ≡ n → ⊥) → turned-down SHAPE ≡ judgeOf o n c
+  -- and nothing is measured
+  none-beyond : {j : ℕ} → j ≡ firstFailed (callTests n c) → (j ≡ 0 → ⊥) → 0 ≡ beyondBy (callTests n c) c
+  unfolding beyondBy
+  none-beyond e h = kept (firstFailed (callTests n c)) _ 0 (λ z. h (e ∙ z))
+
+  refused-call : {j : ℕ} → j ≡ firstFailed (callTests n c) → (j ≡ 0 → ⊥) → (turned-down j ≡ judgeOf o n c) × (0 ≡ beyondBy (callTests n c) c)
+  refused-call e h = (by-number e h, none-beyond e h)
+
+  pub other-run : (k ≡ n → ⊥) → (turned-down SHAPE ≡ judgeOf o n c) × (0 ≡ beyondBy (callTests n c) c)
   unfolding callTests ofRun
-  other-run h = by-number (stops (ofRun n (c .marks)) (marksTests (c .marks) ++ rest) (not-of-run (c .marks) marks h)) (λ z. absurd (omega (arith, z)))
+  other-run h = refused-call (stops (ofRun n (c .marks)) (marksTests (c .marks) ++ rest) (not-of-run (c .marks) marks h)) (λ z. absurd (omega (arith, z)))
 
   module _ (same : k ≡ n) where
     after-run : firstFailed (marksTests (c .marks) ++ rest) ≡ firstFailed (callTests n c)
@@ -75,8 +84,8 @@ module _ (o : RansacOptions) (n : ℕ) {k : ℕ} (c : Call) (marks : k ≡ lengt
     after-run = passes (ofRun n (c .marks)) (marksTests (c .marks) ++ rest) (of-run (c .marks) marks same)
 
     module _ {j : ℕ} (first : j ≡ firstFailed (marksTests (c .marks))) where
-      pub bad-marks : (j ≡ 0 → ⊥) → turned-down j ≡ judgeOf o n c
-      bad-marks h = by-number (marks-failed (c .marks) rest first h ∙ after-run) h
+      pub bad-marks : (j ≡ 0 → ⊥) → (turned-down j ≡ judgeOf o n c) × (0 ≡ beyondBy (callTests n c) c)
+      bad-marks h = refused-call (marks-failed (c .marks) rest first h ∙ after-run) h
 
       -- Test 6 passed, so the call is what it is without it.
       shape-passed : j ≡ 0 → shape (c .marks) .fails ≡ false
@@ -92,8 +101,11 @@ module _ (o : RansacOptions) (n : ℕ) {k : ℕ} (c : Call) (marks : k ≡ lengt
           ∙ after-run
 
       pub same-judged : j ≡ 0 → judgeTested o n c ≡ judgeOf o n c
-      unfolding judgeTested judgeOf judgedBy
-      same-judged h = ap (λ x. ifPassed x (worth o c) (turned-down x)) (tested h)
+      unfolding judgeTested judgeOf
+      same-judged h = judged-alike o c _ _ (tested h)
+
+      pub judged-with-6 : j ≡ 0 → {v : Judged Model} {far : ℕ} → (v ≡ judgeTested o n c) × (far ≡ beyondBy (testedTests n c) c) → (v ≡ judgeOf o n c) × (far ≡ beyondBy (callTests n c) c)
+      judged-with-6 h f = (f .0 ∙ same-judged h, f .1 ∙ beyond-alike o c _ _ (tested h))
 
 -- ---- the indices under a model
 

@@ -24,13 +24,13 @@ use Rattle.judge.specs.declared.Support.{Support}
 use Rattle.judge.specs.declared.Finding.{Finding}
 use Rattle.judge.specs.declared.Finding.the-variants as Findings
 use Rattle.judge.proofs.Left.{support-leaves, support-scored}
-use Rattle.pick.specs.Run.{Answer, viewWinner, viewBest, bookOf, viewState, viewTried}
-use Rattle.pick.specs.Trial.{answerOf, triedWith, stepAnswer, nextOf, squaresThen, viewNext}
+use Rattle.pick.specs.Run.{Booking, viewWinner, viewBest, bookOf, viewState, viewBooked}
+use Rattle.pick.specs.Trial.{bookingOf, triedIn, stepBooking, nextOf, squaresThen, viewNext}
 use Rattle.pick.specs.declared.run_state.Winner.{Winner}
 use Rattle.pick.specs.declared.run_state.Best.{Best}
 use Rattle.pick.specs.declared.run_state.Best.the-variants.{Nothing, Held}
 use Rattle.pick.specs.declared.run_state.State.{State}
-use Rattle.pick.specs.declared.run_state.Tried.{Tried}
+use Rattle.pick.specs.declared.run_state.Booked.{Booked}
 use Rattle.pick.specs.declared.advancing.Next.{Next}
 use Rattle.pick.specs.declared.advancing.Next.the-variants as Nexts
 
@@ -105,15 +105,15 @@ scored-is-no-refusal t before = go (beats t before)
     go false = refl
 
 module _ (s : State) (c : Call) where
-  abbrev entering : Judged Model → Answer
-  entering j = answerOf (viewState s) (entered (ruleOf (s .options)) (bookOf s) j)
+  abbrev entering : Judged Model → Booking
+  entering j = bookingOf (viewState s) (entered (ruleOf (s .options)) (bookOf s) j)
 
   abbrev Goes : Next → List Float → List Float → Type 0
-  Goes r left entry = (viewNext r ≡ nextOf (stepAnswer (viewState s) c)) × (left ≡ squaresThen (viewState s) c entry)
+  Goes r left entry = (viewNext r ≡ nextOf (stepBooking (viewState s) c)) × (left ≡ squaresThen (viewState s) c entry)
 
   module _ {b : Bool} (tested : b ≡ closedAt (s .read) (s .empty) (s .few) (s .scored) (s .bound)) (entry : List Float) where
     pub goes-late : b ≡ true → Goes (Nexts.Refused ENDED) entry entry
-    unfolding stepAnswer triedWith tried isClosed viewState bookOf nextOf viewNext answerOf isRefusal numberIn squaresThen
+    unfolding stepBooking triedIn tried isClosed viewState bookOf nextOf viewNext bookingOf isRefusal numberIn squaresThen
     goes-late h = (rw (← tested, h), rw (← tested, h))
 
     module _ (early : b ≡ false) {left : List Float} (leaves : left ≡ squaresLeft (s .options) (s .n) c entry) where
@@ -121,8 +121,8 @@ module _ (s : State) (c : Call) where
       unfolding squaresThen isClosed viewState bookOf
       left-is = leaves ∙ rw (← tested, early)
 
-      step-is : {j : Judged Model} → j ≡ judgeTested (s .options) (s .n) c → entering j ≡ stepAnswer (viewState s) c
-      unfolding stepAnswer triedWith tried isClosed viewState bookOf
+      step-is : {j : Judged Model} → j ≡ judgeTested (s .options) (s .n) c → entering j ≡ stepBooking (viewState s) c
+      unfolding stepBooking triedIn tried isClosed viewState bookOf
       step-is e = rw (← tested, early, e)
 
       -- not refused: the state is the one after the entry
@@ -130,7 +130,7 @@ module _ (s : State) (c : Call) where
       unfolding nextOf viewNext
       read-on j e h r g = (ap gives g ∙ going (entering j) h ∙ ap nextOf (step-is e), left-is)
         where
-          going : (a : Answer) → isRefusal (a .outcome) ≡ false → gives (a .run) ≡ cond (isRefusal (a .outcome)) (refused (numberIn (a .outcome))) (gives (a .run))
+          going : (a : Booking) → isRefusal (a .outcome) ≡ false → gives (a .run) ≡ cond (isRefusal (a .outcome)) (refused (numberIn (a .outcome))) (gives (a .run))
           going a k = rw k
 
       -- by the case of the finding
@@ -139,22 +139,22 @@ module _ (s : State) (c : Call) where
         found-as e = ap (viewFinding (rmsUnder (s .options) (c .marks))) (sym e) ∙ found
 
         pub goes-refused : {k : ℕ} → q ≡ Findings.Refused k → Goes (Nexts.Refused k) left entry
-        unfolding viewFinding viewNext nextOf answerOf entered isRefusal numberIn
+        unfolding viewFinding viewNext nextOf bookingOf entered isRefusal numberIn
         goes-refused {k} e = (ap nextOf (step-is (found-as e)), left-is)
 
-        module _ (r : Tried) where
-          pub goes-empty : q ≡ Findings.Empty → viewTried r ≡ entering Judged.empty → Goes (Nexts.Read (r .state)) left entry
-          unfolding viewFinding viewTried answerOf entered isRefusal
-          goes-empty e h = read-on Judged.empty (found-as e) refl (r .state) (ap (λ (a : Answer). a .run) h)
+        module _ (r : Booked) where
+          pub goes-empty : q ≡ Findings.Empty → viewBooked r ≡ entering Judged.empty → Goes (Nexts.Read (r .state)) left entry
+          unfolding viewFinding viewBooked bookingOf entered isRefusal
+          goes-empty e h = read-on Judged.empty (found-as e) refl (r .state) (ap (λ (a : Booking). a .run) h)
 
-          pub goes-few : {k : ℕ} → q ≡ Findings.Few k → viewTried r ≡ entering (few k) → Goes (Nexts.Read (r .state)) left entry
-          unfolding viewFinding viewTried answerOf entered isRefusal
-          goes-few {k} e h = read-on (few k) (found-as e) refl (r .state) (ap (λ (a : Answer). a .run) h)
+          pub goes-few : {k : ℕ} → q ≡ Findings.Few k → viewBooked r ≡ entering (few k) → Goes (Nexts.Read (r .state)) left entry
+          unfolding viewFinding viewBooked bookingOf entered isRefusal
+          goes-few {k} e h = read-on (few k) (found-as e) refl (r .state) (ap (λ (a : Booking). a .run) h)
 
         module _ {t : Support} (is : q ≡ Findings.Scored t) (room : 2000 ≤ length left) where
           pub goes-fits : s .n ≤ length left
           goes-fits = support-leaves (s .options) (s .n) c found is entry leaves room .fits
 
           pub goes-scored : (r : State) → viewState r ≡ entering (scored (supportWith (s .options .thresh) (take (s .n) left) t)) .run → Goes (Nexts.Read r) left entry
-          unfolding answerOf entered
+          unfolding bookingOf entered
           goes-scored r h = read-on _ (support-scored (s .options) (s .n) c found is entry leaves room) (scored-is-no-refusal _ (bookOf s .winner)) r h

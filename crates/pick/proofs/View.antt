@@ -101,11 +101,13 @@ outcome-one = told-apart viewOutcome outcomeOf outcome-back
 
 pub tried-one : (x y : Tried) → viewTried x ≡ viewTried y → x ≡ y
 unfolding viewTried
-tried-one = told-apart viewTried (λ a. record { state = stateOf (a .run); outcome = outcomeOf (a .outcome) }) (λ x. rw (state-back (x .state), outcome-back (x .outcome)))
+tried-one =
+    told-apart viewTried (λ a. record { state = stateOf (a .run); outcome = outcomeOf (a .outcome); beyond = a .beyond }) (λ x. rw (state-back (x .state), outcome-back (x .outcome)))
 
-pub tried-onto : (a : Answer) → (t : State) × ((x : Outcome) × (viewTried (record { state = t; outcome = x }) ≡ a))
+pub tried-onto : (a : Answer) → (t : Tried) × (viewTried t ≡ a)
 unfolding viewTried
-tried-onto a = (stateOf (a .run), (outcomeOf (a .outcome), rw (state-there (a .run), outcome-there (a .outcome))))
+tried-onto a =
+    (record { state = stateOf (a .run); outcome = outcomeOf (a .outcome); beyond = a .beyond }, rw (state-there (a .run), outcome-there (a .outcome)))
 
 -- ---- the opening's answer, the next state's and the indices'
 

@@ -10,6 +10,7 @@ use Rattle.pick.specs.declared.run_state.Best.the-variants.{Nothing, Hel
 use Rattle.pick.specs.declared.run_state.State.{State}
 use Rattle.pick.specs.declared.run_state.Outcome.{Outcome as Answered}
 use Rattle.pick.specs.declared.run_state.Outcome.the-variants.{Refused, Empty, Few, Held as HeldWith, Won}
+use Rattle.pick.specs.declared.run_state.Booked.{Booked}
 use Rattle.pick.specs.declared.run_state.Tried.{Tried}
 
 pub record Run : Type 0 where
@@ -45,10 +46,19 @@ viewOutcome (Few count) = is-few count
 viewOutcome (HeldWith count rms) = is-held count rms
 viewOutcome (Won count rms) = is-won count rms
 
--- a trial's answer: the new state and the outcome
-pub record Answer : Type 0 where
+-- what the book makes of a judged trial: the new state and the outcome
+pub record Booking : Type 0 where
   pub run : Run
   pub outcome : Outcome
 
+unfoldable pub viewBooked : Booked → Booking
+viewBooked t = record { run = viewState (t .state); outcome = viewOutcome (t .outcome) }
+
+-- a trial's answer: the new state, the outcome, and how many marks are beyond under the fit
+pub record Answer : Type 0 where
+  pub run : Run
+  pub outcome : Outcome
+  pub beyond : ℕ
+
 unfoldable pub viewTried : Tried → Answer
-viewTried t = record { run = viewState (t .state); outcome = viewOutcome (t .outcome) }
+viewTried t = record { run = viewState (t .state); outcome = viewOutcome (t .outcome); beyond = t .beyond }

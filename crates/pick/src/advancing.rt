@@ -18,7 +18,7 @@ ghost use Rattle.book.specs.Book.{held, winnerAfter, entered};
 ghost use Rattle.book.specs.Calls.{isClosed};
 ghost use Rattle.judge.specs.Judging.{ruleOf, supportWith};
 ghost use Rattle.pick.specs.Run.{bookOf, viewBest, viewWinner, viewState};
-ghost use Rattle.pick.specs.Trial.{answerOf, stepAnswer, nextOf, squaresThen, viewNext};
+ghost use Rattle.pick.specs.Trial.{bookingOf, stepBooking, nextOf, squaresThen, viewNext};
 
 // What `advance` answers: the next state, or the number of the refusal.
 pub enum Next {
@@ -68,7 +68,7 @@ fn next_winner(best: Best, t: Support, number: u32, thresh: f64, squares: &[f64]
 fn after_scored(s: State, t: Support, squares: &[f64]) -> State
     requires { ⌜ isClosed (bookOf s) ≡ false ⌝ }
     requires { ⌜ s .n ≤ length (now squares) ⌝ }
-    ensures { λ r. ⌜ viewState r ≡ answerOf (viewState s) (entered (ruleOf (s .options)) (bookOf s) (scored (supportWith (s .options .thresh) (take (s .n) (now (squares .entry))) t))) .run ⌝ }
+    ensures { λ r. ⌜ viewState r ≡ bookingOf (viewState s) (entered (ruleOf (s .options)) (bookOf s) (scored (supportWith (s .options .thresh) (take (s .n) (now (squares .entry))) t))) .run ⌝ }
 {
     let options = s.options;
     let best = s.winner;
@@ -86,23 +86,25 @@ pub fn advance(
     stops: &[u32],
     squares: &mut [f64; 2000],
 ) -> Next
-    ensures { λ r. ⌜ viewNext r ≡ nextOf (stepAnswer (viewState s) (record { bytes = now (bytes .entry); marks = now (marks .entry); stops = now (stops .entry) })) ⌝ }
+    ensures { λ r. ⌜ viewNext r ≡ nextOf (stepBooking (viewState s) (record { bytes = now (bytes .entry); marks = now (marks .entry); stops = now (stops .entry) })) ⌝ }
     ensures { λ _. ⌜ now (squares .exit) ≡ squaresThen (viewState s) (record { bytes = now (bytes .entry); marks = now (marks .entry); stops = now (stops .entry) }) (now (squares .entry)) ⌝ }
 {
     if booking::is_closed(s.read, s.empty, s.few, s.scored, s.bound) {
         return Next::Refused(rule::ENDED);
     }
     let options = s.options;
-    match judge::count_support(options, s.n, bytes, marks, stops, squares) {
+    let found = judge::count_support(options, s.n, bytes, marks, stops, squares);
+    let finding = found.finding;
+    match finding {
         Finding::Refused(k) => Next::Refused(k),
         Finding::Empty => {
-            let tried = booked_empty(s);
-            let state = tried.state;
+            let booked = booked_empty(s);
+            let state = booked.state;
             Next::Read(state)
         }
         Finding::Few(count) => {
-            let tried = booked_few(s, count);
-            let state = tried.state;
+            let booked = booked_few(s, count);
+            let state = booked.state;
             Next::Read(state)
         }
         Finding::Scored(t) => Next::Read(after_scored(s, t, squares)),

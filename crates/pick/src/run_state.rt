@@ -38,8 +38,16 @@ pub enum Outcome {
     Won(u32, f64),
 }
 
-// A trial's answer: the new state, which is the old one where it was refused, and the outcome.
+// What the book makes of a judged trial: the new state and the outcome.
+pub(crate) struct Booked {
+    pub state: State,
+    pub outcome: Outcome,
+}
+
+// A trial's answer: the new state, which is the old one where it was refused, the outcome, and how many
+// marks are beyond under the fit: 0 without one, and where it was refused.
 pub struct Tried {
     pub state: State,
     pub outcome: Outcome,
+    pub beyond: u32,
 }

@@ -1,9 +1,11 @@
 // One trial (document 01, 'Trials'): what the book makes of it, on any state.
 use crate::run_state::Best;
+use crate::run_state::Booked;
 use crate::run_state::Outcome;
 use crate::run_state::State;
 use crate::run_state::Tried;
 use crate::run_state::Winner;
+use judge::Judgement;
 use judge::Standing;
 use judge::Verdict;
 ghost use mathlib.Core.Path.{_≡_};
@@ -12,8 +14,8 @@ ghost use Rattle.book.specs.Score.{empty, few, scored};
 ghost use Rattle.book.specs.Book.{is-refused, beats, winnerAfter, scoredAnswer, entered};
 ghost use Rattle.book.specs.Calls.{isClosed};
 ghost use Rattle.judge.specs.Judging.{ruleOf, standingOf, viewVerdict};
-ghost use Rattle.pick.specs.Run.{bookOf, viewBest, viewState, viewOutcome, viewTried};
-ghost use Rattle.pick.specs.Trial.{answerOf, trialAnswer, stepAnswer, scoredRun};
+ghost use Rattle.pick.specs.Run.{bookOf, viewBest, viewState, viewOutcome, viewBooked, viewTried};
+ghost use Rattle.pick.specs.Trial.{bookingOf, answerOf, trialAnswer, stepAnswer, scoredRun};
 
 // Whether a scored trial wins: over the winner so far, or where nothing won before.
 fn wins(s: Standing, best: Best) -> bool
@@ -53,35 +55,36 @@ fn scored_outcome(s: Standing, best: Best) -> Outcome
 
 // The old state, and the number.
 fn refused(s: State, k: u32) -> Tried
-    ensures { λ r. ⌜ viewTried r ≡ answerOf (viewState s) (record { book = bookOf s; answer = is-refused k }) ⌝ }
+    ensures { λ r. ⌜ viewTried r ≡ answerOf (bookingOf (viewState s) (record { book = bookOf s; outcome = is-refused k })) 0 ⌝ }
 {
     Tried {
         state: s,
         outcome: Outcome::Refused(k),
+        beyond: 0,
     }
 }
 
-pub(crate) fn booked_empty(s: State) -> Tried
+pub(crate) fn booked_empty(s: State) -> Booked
     requires { ⌜ isClosed (bookOf s) ≡ false ⌝ }
-    ensures { λ r. ⌜ viewTried r ≡ answerOf (viewState s) (entered (ruleOf (s .options)) (bookOf s) empty) ⌝ }
+    ensures { λ r. ⌜ viewBooked r ≡ bookingOf (viewState s) (entered (ruleOf (s .options)) (bookOf s) empty) ⌝ }
 {
     let mut t = s;
     t.read += 1;
     t.empty += 1;
-    Tried {
+    Booked {
         state: t,
         outcome: Outcome::Empty,
     }
 }
 
-pub(crate) fn booked_few(s: State, count: u32) -> Tried
+pub(crate) fn booked_few(s: State, count: u32) -> Booked
     requires { ⌜ isClosed (bookOf s) ≡ false ⌝ }
-    ensures { λ r. ⌜ viewTried r ≡ answerOf (viewState s) (entered (ruleOf (s .options)) (bookOf s) (few count)) ⌝ }
+    ensures { λ r. ⌜ viewBooked r ≡ bookingOf (viewState s) (entered (ruleOf (s .options)) (bookOf s) (few count)) ⌝ }
 {
     let mut t = s;
     t.read += 1;
     t.few += 1;
-    Tried {
+    Booked {
         state: t,
         outcome: Outcome::Few(count),
     }
@@ -108,27 +111,46 @@ pub(crate) fn scored_state(s: State, winner: Best, stop: u32) -> State
 }
 
 // A scored trial may win.
-fn booked_scored(s: State, score: Standing) -> Tried
+fn booked_scored(s: State, score: Standing) -> Booked
     requires { ⌜ isClosed (bookOf s) ≡ false ⌝ }
-    ensures { λ r. ⌜ viewTried r ≡ answerOf (viewState s) (entered (ruleOf (s .options)) (bookOf s) (scored (standingOf score))) ⌝ }
+    ensures { λ r. ⌜ viewBooked r ≡ bookingOf (viewState s) (entered (ruleOf (s .options)) (bookOf s) (scored (standingOf score))) ⌝ }
 {
     let best = s.winner;
     let winner = winner_after(score, s.read + 1, best);
     let outcome = scored_outcome(score, best);
     let state = scored_state(s, winner, score.stop);
-    Tried { state, outcome }
+    Booked { state, outcome }
 }
 
 // What the book makes of a judged trial, before the end.
-fn booked(s: State, v: Verdict) -> Tried
+fn booked(s: State, v: Verdict) -> Booked
     requires { ⌜ isClosed (bookOf s) ≡ false ⌝ }
-    ensures { λ r. ⌜ viewTried r ≡ answerOf (viewState s) (entered (ruleOf (s .options)) (bookOf s) (viewVerdict v)) ⌝ }
+    ensures { λ r. ⌜ viewBooked r ≡ bookingOf (viewState s) (entered (ruleOf (s .options)) (bookOf s) (viewVerdict v)) ⌝ }
 {
     match v {
-        Verdict::Refused(k) => refused(s, k),
+        Verdict::Refused(k) => Booked {
+            state: s,
+            outcome: Outcome::Refused(k),
+        },
         Verdict::Empty => booked_empty(s),
         Verdict::Few(count) => booked_few(s, count),
         Verdict::Scored(score) => booked_scored(s, score),
+    }
+}
+
+// The answer to a judged trial, before the end.
+fn answered(s: State, j: Judgement) -> Tried
+    requires { ⌜ isClosed (bookOf s) ≡ false ⌝ }
+    ensures { λ r. ⌜ viewTried r ≡ answerOf (bookingOf (viewState s) (entered (ruleOf (s .options)) (bookOf s) (viewVerdict (j .verdict)))) (j .beyond) ⌝ }
+{
+    let verdict = j.verdict;
+    let booked = booked(s, verdict);
+    let state = booked.state;
+    let outcome = booked.outcome;
+    Tried {
+        state,
+        outcome,
+        beyond: j.beyond,
     }
 }
 
@@ -140,7 +162,7 @@ pub fn step(s: State, bytes: &[u8], marks: &[f64], stops: &[u32]) -> Tried
         return refused(s, rule::ENDED);
     }
     let options = s.options;
-    booked(s, judge::judge(options, s.n, bytes, marks, stops))
+    answered(s, judge::judge(options, s.n, bytes, marks, stops))
 }
 
 // One trial; refused with 10, 5, 6, 7, 8 or 1, in this order.
@@ -158,5 +180,5 @@ pub fn trial(s: State, bytes: &[u8], marks: &[f64], stops: &[u32]) -> Tried
         return refused(s, refusal);
     }
     let options = s.options;
-    booked(s, judge::judge(options, s.n, bytes, marks, stops))
+    answered(s, judge::judge(options, s.n, bytes, marks, stops))
 }

@@ -53,11 +53,11 @@ module _ (words : List ℕ) (call : Call) (entry : List ℕ) where
   no-words h = (rw (lt-ltb _ _ h), rw (lt-ltb _ _ h))
 
   module _ (whole : 24 ≤ length words) where
-    pub no-room : length entry < 27 → (NO-WORDS ≡ triedNumber words entry) × (entry ≡ triedAfter words call entry)
+    pub no-room : length entry < 28 → (NO-WORDS ≡ triedNumber words entry) × (entry ≡ triedAfter words call entry)
     unfolding triedNumber triedAfter
     no-room h = (rw (le-ltb _ _ whole, lt-ltb _ _ h), rw (le-ltb _ _ whole) (filled-not _ entry (rw (tried-wide _) h)))
 
-    pub tried : {after : List ℕ} → 27 ≤ length entry → after ≡ filled (triedWords (trialAnswer (runIn words) call)) entry → (0 ≡ triedNumber words entry) × (after ≡ triedAfter words call entry)
+    pub tried : {after : List ℕ} → 28 ≤ length entry → after ≡ filled (triedWords (trialAnswer (runIn words) call)) entry → (0 ≡ triedNumber words entry) × (after ≡ triedAfter words call entry)
     unfolding triedNumber triedAfter
     tried h e = (rw (le-ltb _ _ whole, le-ltb _ _ h), e ∙ rw (le-ltb _ _ whole))
 

@@ -1,6 +1,6 @@
--- A lent list written part by part, each from where the one before it ends: a state's three parts, and a trial's two. Assumes nothing.
+-- A lent list written part by part, each from where the one before it ends: a state's three parts, and a trial's three. Assumes nothing.
 use mathlib.Core.Path.{_≡_, refl, sym, ap, _∙_}
-use mathlib.Core.List.{List, _++_}
+use mathlib.Core.List.{List, [], _∷_, _++_}
 use Prim.Native.Nat.{ℕ, _+_, _-_, _≤_}
 use native.Mathlib.Nat.{zero-add}
 use native.Mathlib.Omega.{arith}
@@ -12,7 +12,7 @@ use Rattle.pick.specs.Run.{viewBest, bookOf, viewState, viewOutcome, viewTried}
 use Rattle.pick.specs.declared.run_state.State.{State}
 use Rattle.pick.specs.declared.run_state.Tried.{Tried}
 use Rattle.probe_pick.specs.Words.{optionWords, countWords, winnerWords, runWords, outcomeWords, triedWords}
-use Rattle.probe_pick.proofs.Widths.{options-wide, counts-wide, winner-wide, front-wide, run-wide, outcome-wide, tried-wide}
+use Rattle.probe_pick.proofs.Widths.{options-wide, counts-wide, winner-wide, front-wide, run-wide, outcome-wide, ended-wide, tried-wide}
 
 module _ (l : List ℕ) {xs words part : List ℕ} (is : words ≡ xs) where
   pub first-part : (end : ℕ) → length xs ≡ end → end ≤ length l → part ≡ filled words (midOf 0 (end - 0) l) → putMid 0 (end - 0) l part ≡ replaced 0 xs l
@@ -41,12 +41,15 @@ state-put s l room o c w p q r =
     r
     ∙ filled-replaced (runWords (viewState s)) l (rw (run-wide (viewState s)) room)
 
-pub tried-put : (t : Tried) (l : List ℕ) {words a b : List ℕ} → 27 ≤ length l
-    → words ≡ outcomeWords (viewOutcome (t .outcome)) → a ≡ filled (runWords (viewState (t .state))) (midOf 0 24 l) → b ≡ filled words (midOf 24 3 (putMid 0 24 l a))
-    → putMid 24 3 (putMid 0 24 l a) b ≡ filled (triedWords (viewTried t)) l
+pub tried-put : (t : Tried) (l : List ℕ) {words last a b d : List ℕ} → 28 ≤ length l
+    → words ≡ outcomeWords (viewOutcome (t .outcome)) → last ≡ t .beyond ∷ []
+    → a ≡ filled (runWords (viewState (t .state))) (midOf 0 24 l) → b ≡ filled words (midOf 24 3 (putMid 0 24 l a)) → d ≡ filled last (midOf 27 1 (putMid 24 3 (putMid 0 24 l a) b))
+    → putMid 27 1 (putMid 24 3 (putMid 0 24 l a) b) d ≡ filled (triedWords (viewTried t)) l
 unfolding triedWords viewTried
-tried-put t l room o p q =
-    next-part l o 24 27 (runWords (viewState (t .state))) (run-wide (viewState (t .state))) (ap (λ k. 24 + k) (outcome-wide (viewOutcome (t .outcome)))) room
+tried-put t l room o n p q r =
+    next-part l n 27 28 (runWords (viewState (t .state)) ++ outcomeWords (viewOutcome (t .outcome))) (ended-wide (viewTried t)) refl room
+    (next-part l o 24 27 (runWords (viewState (t .state))) (run-wide (viewState (t .state))) (ap (λ k. 24 + k) (outcome-wide (viewOutcome (t .outcome)))) (omega arith)
     (first-part l refl 24 (run-wide (viewState (t .state))) (omega arith) p)
-    q
+    q)
+    r
     ∙ filled-replaced (triedWords (viewTried t)) l (rw (tried-wide (viewTried t)) room)

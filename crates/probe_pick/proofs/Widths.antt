@@ -38,6 +38,9 @@ outcome-wide (is-few count) = refl
 outcome-wide (is-held count rms) = refl
 outcome-wide (is-won count rms) = refl
 
-pub tried-wide : (t : Answer) → length (triedWords t) ≡ 27
+pub ended-wide : (t : Answer) → length (runWords (t .run) ++ outcomeWords (t .outcome)) ≡ 27
+ended-wide t = rw (length-append, run-wide (t .run), outcome-wide (t .outcome))
+
+pub tried-wide : (t : Answer) → length (triedWords t) ≡ 28
 unfolding triedWords
-tried-wide t = rw (length-append, run-wide (t .run), outcome-wide (t .outcome))
+tried-wide t = rw (length-append, ended-wide t)

@@ -44,7 +44,7 @@ openedAfter (gives r) entry = filled (runWords r) entry
 -- ---- a trial
 
 unfoldable pub triedNumber : (words entry : List ℕ) → ℕ
-triedNumber words entry = cond (ltb (length words) 24 || ltb (length entry) 27) NO-WORDS 0
+triedNumber words entry = cond (ltb (length words) 24 || ltb (length entry) 28) NO-WORDS 0
 
 unfoldable pub triedAfter : (words : List ℕ) → Call → (entry : List ℕ) → List ℕ
 triedAfter words call entry = cond (ltb (length words) 24) entry (filled (triedWords (trialAnswer (runIn words) call)) entry)

@@ -1,4 +1,4 @@
--- A state as 24 words and a trial's answer as 27, for a caller in C or Rust. A double is its bit pattern, and all NaNs are one; a flag is 0 or 1.
+-- A state as 24 words and a trial's answer as 28, for a caller in C or Rust. A double is its bit pattern, and all NaNs are one; a flag is 0 or 1.
 use mathlib.Core.Bool.{Bool, cond, not}
 use mathlib.Core.List.{List, [], _∷_, _++_, map}
 use Prim.Native.Nat.{ℕ, _%_}
@@ -43,8 +43,9 @@ outcomeWords (is-few count) = 2 ∷ count ∷ 0 ∷ []
 outcomeWords (is-held count rms) = 3 ∷ count ∷ bits rms ∷ []
 outcomeWords (is-won count rms) = 4 ∷ count ∷ bits rms ∷ []
 
+-- words 24 to 26, and 27 for the number beyond
 unfoldable pub triedWords : Answer → List ℕ
-triedWords t = runWords (t .run) ++ outcomeWords (t .outcome)
+triedWords t = (runWords (t .run) ++ outcomeWords (t .outcome)) ++ (t .beyond ∷ [])
 
 -- ---- reading
 

@@ -81,8 +81,8 @@ pub extern "C" fn probe_new_options(thresh: f64, state: &mut [u64]) -> u32
     0
 }
 
-// A trial: the new state's words, then which outcome, the refusal's number or the count, and the root
-// mean square.
+// A trial: the new state's words, then which outcome, the refusal's number or the count, the root mean
+// square, and the number beyond.
 #[no_mangle]
 pub extern "C" fn probe_trial(
     state: &[u64],
@@ -97,7 +97,7 @@ pub extern "C" fn probe_trial(
     if state.len() < 24 {
         return NO_WORDS;
     }
-    if out.len() < 27 {
+    if out.len() < 28 {
         return NO_WORDS;
     }
     writing::put_tried(

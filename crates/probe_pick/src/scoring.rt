@@ -7,7 +7,7 @@ ghost use lib.Ieee.{nan};
 ghost use Rattle.rule.specs.Lists.{filled};
 ghost use Rattle.root.specs.Root.{rootOf};
 ghost use Rattle.book.specs.Score.{countIn, squaresIn, rmsOf};
-ghost use Rattle.measure.specs.Distances.{squaresOf};
+ghost use Rattle.measure.specs.Distances.{squaresOf, beyondFound};
 ghost use Rattle.score.specs.Places.{indexCount, indexed};
 ghost use Rattle.score.specs.Less.{lessOf};
 ghost use Rattle.probe_pick.specs.Scoring.{modelOf, belowOf};
@@ -25,7 +25,8 @@ pub extern "C" fn probe_squared_residuals(
     h8: f64,
     marks: &[f64],
     squares: &mut [f64],
-)
+) -> usize
+    ensures { λ r. ⌜ r ≡ beyondFound (now (marks .entry)) (modelOf h0 h1 h2 h3 h4 h5 h6 h7 h8) (now (squares .entry)) ⌝ }
     ensures { λ _. ⌜ now (squares .exit) ≡ filled (squaresOf (now (marks .entry)) (modelOf h0 h1 h2 h3 h4 h5 h6 h7 h8)) (now (squares .entry)) ⌝ }
 {
     let h = Model {
@@ -39,7 +40,7 @@ pub extern "C" fn probe_squared_residuals(
         h7,
         h8,
     };
-    measure::squared_residuals(h, marks, squares);
+    measure::squared_residuals(h, marks, squares)
 }
 
 #[no_mangle]

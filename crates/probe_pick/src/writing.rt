@@ -1,4 +1,4 @@
-// A state's 24 words, and a trial's 27, put into a lent list.
+// A state's 24 words, and a trial's 28, put into a lent list.
 use pick::Best;
 use pick::Outcome;
 use pick::State;
@@ -116,14 +116,16 @@ fn outcome_words(outcome: Outcome) -> [u64; 3]
     }
 }
 
-// The new state's words and the outcome's, into a list that has room for them.
+// The new state's words, the outcome's and the number beyond, into a list that has room for them.
 pub(crate) fn put_tried(t: Tried, out: &mut [u64])
-    requires { ⌜ 27 ≤ length (now out) ⌝ }
+    requires { ⌜ 28 ≤ length (now out) ⌝ }
     ensures { λ _. ⌜ now (out .exit) ≡ filled (triedWords (viewTried t)) (now (out .entry)) ⌝ }
 {
     let state = t.state;
     let outcome = t.outcome;
     let words = outcome_words(outcome);
+    let last = [t.beyond as u64];
     put_state(state, &mut out[0..24]);
     put(&words, &mut out[24..27]);
+    put(&last, &mut out[27..28]);
 }

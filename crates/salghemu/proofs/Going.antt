@@ -27,9 +27,9 @@ use Rattle.book.proofs.Runs.{run-out, run-late, run-on, run-broken}
 use Rattle.records.specs.Options.{thresh, confidence, iters, optionsTests}
 use Rattle.records.specs.declared.options.RansacOptions.{RansacOptions}
 use Rattle.judge.specs.Judging.{ruleOf, Call, judgeOf, judgeTested}
-use Rattle.pick.specs.Run.{Run, Answer, bookOf, viewState}
+use Rattle.pick.specs.Run.{Run, Booking, bookOf, viewState}
 use Rattle.pick.specs.Opening.{freshRun}
-use Rattle.pick.specs.Trial.{answerOf, triedWith, stepAnswer, nextOf, viewNext}
+use Rattle.pick.specs.Trial.{bookingOf, triedIn, stepBooking, nextOf, viewNext}
 use Rattle.pick.specs.declared.run_state.State.{State}
 use Rattle.pick.specs.declared.advancing.Next.{Next}
 use Rattle.pick.specs.declared.advancing.Next.the-variants as Nexts
@@ -48,7 +48,7 @@ few-iters o h =
 
 -- ---- what a step without an outcome says
 
-next-refused : (a : Answer) (k : ℕ) → refused k ≡ nextOf a → (isRefusal (a .outcome) ≡ true) × (k ≡ numberIn (a .outcome))
+next-refused : (a : Booking) (k : ℕ) → refused k ≡ nextOf a → (isRefusal (a .outcome) ≡ true) × (k ≡ numberIn (a .outcome))
 unfolding nextOf
 next-refused a k h = go (isRefusal (a .outcome)) h
   where
@@ -56,7 +56,7 @@ next-refused a k h = go (isRefusal (a .outcome)) h
     go true e = (refl, cc)
     go false e = absurd (let z : _≡_ {A = ℕ} 0 1 = cc in omega (arith, z))
 
-next-read : (a : Answer) (r : Run) → gives r ≡ nextOf a → (isRefusal (a .outcome) ≡ false) × (r ≡ a .run)
+next-read : (a : Booking) (r : Run) → gives r ≡ nextOf a → (isRefusal (a .outcome) ≡ false) × (r ≡ a .run)
 unfolding nextOf
 next-read a r h = go (isRefusal (a .outcome)) h
   where
@@ -144,24 +144,24 @@ module _ (o : RansacOptions) (l : List Float) (table trials : List ℕ) where
       owed-is : runOver (ruleOf o) (bookOf s) (judged bytes ∷ drop (i + 1) js) ≡ whole
       owed-is = ap (runOver (ruleOf o) (bookOf s)) (sym (js-from i here)) ∙ g .owed
 
-      module _ (r : Next) {w : ℕ} (step : viewNext r ≡ nextOf (stepAnswer (viewState s) (record { bytes = take w (drop (152 * i) trials); marks = l; stops = table }))) (wide : w ≡ 152) where
-        of-152 : viewNext r ≡ nextOf (stepAnswer (viewState s) call)
-        of-152 = step ∙ ap (λ (k : ℕ). nextOf (stepAnswer (viewState s) (record { bytes = take k (drop (152 * i) trials); marks = l; stops = table }))) wide
+      module _ (r : Next) {w : ℕ} (step : viewNext r ≡ nextOf (stepBooking (viewState s) (record { bytes = take w (drop (152 * i) trials); marks = l; stops = table }))) (wide : w ≡ 152) where
+        of-152 : viewNext r ≡ nextOf (stepBooking (viewState s) call)
+        of-152 = step ∙ ap (λ (k : ℕ). nextOf (stepBooking (viewState s) (record { bytes = take k (drop (152 * i) trials); marks = l; stops = table }))) wide
 
-        nexts : viewNext r ≡ nextOf (answerOf (viewState s) next)
-        unfolding stepAnswer triedWith viewState
-        nexts = of-152 ∙ ap (λ (x : Entered Model). nextOf (answerOf (viewState s) x)) tried-is
+        nexts : viewNext r ≡ nextOf (bookingOf (viewState s) next)
+        unfolding stepBooking triedIn viewState
+        nexts = of-152 ∙ ap (λ (x : Entered Model). nextOf (bookingOf (viewState s) x)) tried-is
 
         pub going-broken : {k : ℕ} → r ≡ Nexts.Refused k → viewRan (Ran.Broken k) ≡ whole
-        unfolding viewRan viewNext answerOf
+        unfolding viewRan viewNext bookingOf
         going-broken {k} e =
-            let told = next-refused (answerOf (viewState s) next) k (ap viewNext (sym e) ∙ nexts) in
+            let told = next-refused (bookingOf (viewState s) next) k (ap viewNext (sym e) ∙ nexts) in
             ap broken (told .1) ∙ run-broken (ruleOf o) (bookOf s) still (drop (i + 1) js) (judged bytes) (told .0) ∙ owed-is
 
         pub going-on : {t : State} → r ≡ Nexts.Read t → Going (i + 1) t
-        unfolding viewNext viewState answerOf
+        unfolding viewNext viewState bookingOf
         going-on {t} e =
-            let told = next-read (answerOf (viewState s) next) (viewState t) (ap viewNext (sym e) ∙ nexts) in
+            let told = next-read (bookingOf (viewState s) next) (viewState t) (ap viewNext (sym e) ∙ nexts) in
             let run = told .1 in
             let book : bookOf t ≡ next .book = ap (λ (x : Run). x .book) run in
             record {

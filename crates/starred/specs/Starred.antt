@@ -1,4 +1,4 @@
--- Document 01, 'Sheets to try': the starred cases, one list. `proofs/Proved.antt` proves it, of the definitions.
+-- Document 01, 'Sheets to try': the starred cases, one list; with the number beyond of document 02, order 2. `proofs/Proved.antt` proves it, of the definitions.
 -- Those of the root, the quadratic and the distance are run too, beside cases without a star, by the program `cases`; those of trials by the comparison
 -- with the Rust.
 use mathlib.Core.Path.{_≡_}
@@ -11,9 +11,10 @@ use Rattle.rule.specs.Lists.{countOf}
 use Rattle.root.specs.Root.{rootAnswer}
 use Rattle.numbers.specs.Quadratic.{quadraticAnswer}
 use Rattle.numbers.specs.Constants.{infinity}
-use Rattle.book.specs.Score.{Options, Trial, fitted, refitted, countIn, Judged, few, scored, judgeTrial}
-use Rattle.book.specs.Book.{held, fresh, bookAfter}
-use Rattle.sheet.specs.Distance.{distanceOf, inlier}
+use Rattle.book.specs.Score.{Options, Trial, fitted, refitted, countIn, Judged, few, scored, Judgement, beyondFit, judgeTrial}
+use Rattle.book.specs.Book.{held, Answer, is-few, is-won, fresh, bookAfter, answersOf}
+use Rattle.numbers.specs.Measure.{beyond}
+use Rattle.sheet.specs.Distance.{measureOf, beyondUnder, distanceOf, inlier}
 use Rattle.sheet.specs.declared.marks.Mark.{Mark}
 use Rattle.sheet.specs.declared.model.Model.{Model}
 
@@ -55,6 +56,14 @@ opts thresh least refits = record { thresh = thresh; most = 10; least = least; r
 abbrev trial : Options → Trial Model → Judged Model
 trial o t = judgeTrial o (λ h. map (distanceOf h) square) (9 ∷ 9 ∷ 9 ∷ 9 ∷ 3 ∷ 9 ∷ []) t
 
+-- the same with the number beyond
+abbrev judgement : Options → Trial Model → Judgement Model
+judgement o t = record { worth = trial o t; beyond = beyondFit (λ h. countOf (beyondUnder h) square) t }
+
+-- the book's answer to one trial
+abbrev answers : Options → Trial Model → List Answer
+answers o t = answersOf o (fresh o) (judgement o t ∷ [])
+
 abbrev stands : Model → ℕ → Float → ℕ → Judged Model
 stands h count rms stop = scored (record { model = h; count = count; rms = rms; stop = stop })
 
@@ -75,6 +84,10 @@ pub record Starred : Type 0 where
   -- I with h8 = -1: few at min 1; scored at min 0, rms infinite
   pub behind-few : trial (opts (whole 2) 1 false) (fitted behind) ≡ few 0
   pub behind-scored : trial (opts (whole 2) 0 false) (fitted behind) ≡ stands behind 0 infinity 10
+  -- the same, each mark beyond: the answer has 5 of them (document 02, order 2)
+  pub all-beyond : map (measureOf behind) square ≡ beyond ∷ beyond ∷ beyond ∷ beyond ∷ beyond ∷ []
+  pub few-with-5 : answers (opts (whole 2) 1 false) (fitted behind) ≡ record { outcome = is-few 0; beyond = 5 } ∷ []
+  pub won-with-5 : answers (opts (whole 2) 0 false) (fitted behind) ≡ record { outcome = is-won 0 infinity; beyond = 5 } ∷ []
   -- I twice, thresh 2, min 4: trial 1 wins
   pub first-wins :
       bookAfter (opts (whole 2) 4 false) (fresh (opts (whole 2) 4 false)) (trial (opts (whole 2) 4 false) (fitted I) ∷ trial (opts (whole 2) 4 false) (fitted I) ∷ []) .winner

@@ -1,5 +1,4 @@
 -- `judge::count_support` meets its contract. Assumes nothing.
-use native.Mathlib.Omega.{arith}
 use borrow.Author.Needs.{needs}
 use Rattle.judge.proofs.Ways.{call-refused, case-refused, case-empty, case-fit, case-refit, passed-short}
 use Rattle.judge.proofs.count_support.Statement.{statement}
@@ -39,10 +38,10 @@ returns-3 : tie.Need-returns-3
 returns-3 c = case-empty _ _ _ (c .before .before .before .before .check-call .ensures) (c .before .before .before .if1 .left) _ (c .before .before .read-trial .ensures) (c .enum-told .given .1)
 
 returns-4 : tie.Need-returns-4
-returns-4 c = case-fit _ _ _ (c .before .before .before .before .before .before .before .check-call .ensures) (c .before .before .before .before .before .before .if1 .left) _ (c .before .before .before .before .before .read-trial .ensures) (c .before .before .before .fit .given .1) _ _ (c .count-fit .ensures)
+returns-4 c = case-fit _ _ _ (c .before .before .before .before .before .before .before .check-call .ensures) (c .before .before .before .before .before .before .if1 .left) _ (c .before .before .before .before .before .read-trial .ensures) (c .before .before .before .fit .given .1) _ _ _ (c .count-fit .ensures)
 
 returns-5 : tie.Need-returns-5
-returns-5 c = case-refit _ _ _ (c .before .before .before .before .before .before .before .check-call .ensures) (c .before .before .before .before .before .before .if1 .left) _ (c .before .before .before .before .before .read-trial .ensures) (c .before .before .before .pair .given .1) _ _ (c .count-refit .ensures)
+returns-5 c = case-refit _ _ _ (c .before .before .before .before .before .before .before .check-call .ensures) (c .before .before .before .before .before .before .if1 .left) _ (c .before .before .before .before .before .read-trial .ensures) (c .before .before .before .pair .given .1) _ _ _ (c .count-refit .ensures)
 
 pub count-support-spec : {M : Type 1} → statement M
 count-support-spec =

@@ -1,9 +1,9 @@
 -- `judge::count_under` meets its contract. Assumes nothing.
+use mathlib.Core.Path.{ap, _∙_}
 use native.Mathlib.Omega.{arith}
 use borrow.Author.Needs.{needs}
-use Rattle.judge.proofs.Left.{measured-front, measured-roots}
 use Rattle.book.specs.Score.{countIn}
-use mathlib.Core.Path.{_≡_, sym, ap, _∙_}
+use Rattle.judge.proofs.Left.{few-enough, measured-fits, measured-front, measured-roots, found-beyond, beyond-small}
 use Rattle.judge.proofs.count_under.Statement.{statement}
 use Rattle.judge.proofs.count_under.Tie as tie
 
@@ -14,19 +14,22 @@ mark-count-requires : tie.Need-mark-count-requires
 mark-count-requires c κs = search needs
 
 slice-reshare-prefix-count-inliers : tie.Need-slice-reshare-prefix-count-inliers
-slice-reshare-prefix-count-inliers c = search needs
+slice-reshare-prefix-count-inliers c = measured-fits _ _ _ (c .mark-count .ensures) (few-enough _ (c .before .before .before .before .before .before .before .pre .0) (c .before .before .before .before .before .before .before .pre .1)) (c .before .before .before .squared-residuals .ensures .1)
 
 slice-aggregate-count-inliers : tie.Need-slice-aggregate-count-inliers
-slice-aggregate-count-inliers c = measured-front _ _ _ (c .before .mark-count .ensures) (c .before .before .before .before .before .before .before .before .pre) (c .before .before .before .before .squared-residuals .ensures)
+slice-aggregate-count-inliers c = measured-front _ _ _ (c .before .mark-count .ensures) (few-enough _ (c .before .before .before .before .before .before .before .before .pre .0) (c .before .before .before .before .before .before .before .before .pre .1)) (c .before .before .before .before .squared-residuals .ensures .1)
 
 count-inliers-requires : tie.Need-count-inliers-requires
 count-inliers-requires c κs = search needs
+
+cast-t12 : tie.Need-cast-t12
+cast-t12 c = let s = beyond-small _ _ (c .before .before .before .before .before .before .before .before .before .pre .0) (found-beyond _ _ _ (few-enough _ (c .before .before .before .before .before .before .before .before .before .pre .0) (c .before .before .before .before .before .before .before .before .before .pre .1)) (c .before .before .before .before .before .squared-residuals .ensures .0)) in omega (arith, s)
 
 same-length : tie.Need-same-length
 same-length c = search needs
 
 returns : tie.Need-returns
-returns c = (c .count-inliers .ensures ∙ ap (countIn _) (measured-roots _ _ _ (c .before .before .mark-count .ensures) (c .before .before .before .before .before .before .before .before .before .pre) (c .before .before .before .before .before .squared-residuals .ensures)), c .before .before .before .before .before .squared-residuals .ensures)
+returns c = (c .count-inliers .ensures ∙ ap (countIn _) (measured-roots _ _ _ (c .before .before .mark-count .ensures) (few-enough _ (c .before .before .before .before .before .before .before .before .before .pre .0) (c .before .before .before .before .before .before .before .before .before .pre .1)) (c .before .before .before .before .before .squared-residuals .ensures .1)), (found-beyond _ _ _ (few-enough _ (c .before .before .before .before .before .before .before .before .before .pre .0) (c .before .before .before .before .before .before .before .before .before .pre .1)) (c .before .before .before .before .before .squared-residuals .ensures .0), c .before .before .before .before .before .squared-residuals .ensures .1))
 
 pub count-under-spec : {M : Type 1} → statement M
 count-under-spec =
@@ -37,5 +40,6 @@ count-under-spec =
     slice-reshare-prefix-count-inliers
     slice-aggregate-count-inliers
     count-inliers-requires
+    cast-t12
     same-length
     returns)

@@ -1,5 +1,4 @@
 -- `judge::places_under` meets its contract. Assumes nothing.
-use native.Mathlib.Omega.{arith}
 use borrow.Author.Needs.{needs}
 use Rattle.judge.proofs.Left.{over-many, measured-front, measured-roots}
 use Rattle.judge.proofs.places_under.Statement.{statement}
@@ -18,7 +17,7 @@ slice-reshare-prefix-write-inliers : tie.Need-slice-reshare-prefix-write-inliers
 slice-reshare-prefix-write-inliers c = search needs
 
 slice-aggregate-write-inliers : tie.Need-slice-aggregate-write-inliers
-slice-aggregate-write-inliers c = measured-front _ _ _ (c .before .before .before .before .before .before .mark-count .ensures) (rw (← c .before .before .before .before .before .before .mark-count .ensures) (c .before .before .before .before .before .if1 .left)) (c .before .before .before .squared-residuals .ensures)
+slice-aggregate-write-inliers c = measured-front _ _ _ (c .before .before .before .before .before .before .mark-count .ensures) (rw (← c .before .before .before .before .before .before .mark-count .ensures) (c .before .before .before .before .before .if1 .left)) (c .before .before .before .squared-residuals .ensures .1)
 
 write-inliers-requires : tie.Need-write-inliers-requires
 write-inliers-requires c κs = search needs
@@ -30,7 +29,7 @@ same-length-2 : tie.Need-same-length-2
 same-length-2 c = search needs
 
 returns-2 : tie.Need-returns-2
-returns-2 c = rw (← measured-roots _ _ _ (c .before .before .before .before .before .before .before .before .before .before .mark-count .ensures) (rw (← c .before .before .before .before .before .before .before .before .before .before .mark-count .ensures) (c .before .before .before .before .before .before .before .before .before .if1 .left)) (c .before .before .before .before .before .before .before .squared-residuals .ensures)) (c .before .before .write-inliers .ensures .0, (c .before .before .before .before .before .before .before .squared-residuals .ensures, c .before .before .write-inliers .ensures .1))
+returns-2 c = rw (← measured-roots _ _ _ (c .before .before .before .before .before .before .before .before .before .before .mark-count .ensures) (rw (← c .before .before .before .before .before .before .before .before .before .before .mark-count .ensures) (c .before .before .before .before .before .before .before .before .before .if1 .left)) (c .before .before .before .before .before .before .before .squared-residuals .ensures .1)) (c .before .before .write-inliers .ensures .0, (c .before .before .before .before .before .before .before .squared-residuals .ensures .1, c .before .before .write-inliers .ensures .1))
 
 pub places-under-spec : {M : Type 1} → statement M
 places-under-spec =

@@ -1,6 +1,10 @@
 -- `measure::squared_residual` meets its contract. Assumes nothing.
+use mathlib.Core.Path.{refl}
+use native.Mathlib.Omega.{arith}
 use borrow.Author.Needs.{needs}
 use lib.Ieee.{nanBits}
+use Rattle.numbers.specs.Measure.{isBeyond}
+use Rattle.sheet.specs.Distance.{measureOf, beyondUnder}
 use Rattle.measure.specs.Distances.{squaredOf}
 use Rattle.measure.proofs.squared_residual.Statement.{statement}
 use Rattle.measure.proofs.squared_residual.Tie as tie
@@ -17,17 +21,17 @@ point-of-requires-2 c κs = search needs
 squared-apart-requires : tie.Need-squared-apart-requires
 squared-apart-requires c κs = search needs
 
-float-from-bits-result : tie.Need-float-from-bits-result
+float-from-bits-t9 : tie.Need-float-from-bits-t9
 unfolding nanBits
-float-from-bits-result c = tt
+float-from-bits-t9 c = tt
 
 returns : tie.Need-returns
-unfolding squaredOf
-returns c = rw (← c .before .before .before .before .before .point-of .ensures, ← c .before .before .before .before .project .ensures, ← c .before .before .before .point-of2 .ensures, c .if1 .taken) (c .before .before .squared-apart .ensures)
+unfolding squaredOf beyondUnder measureOf isBeyond
+returns c = rw (← c .before .before .before .before .before .point-of .ensures, ← c .before .before .before .before .project .ensures, ← c .before .before .before .point-of2 .ensures, c .if1 .taken) (c .before .before .squared-apart .ensures, (refl, omega arith))
 
 returns-2 : tie.Need-returns-2
-unfolding squaredOf
-returns-2 c = rw (← c .before .before .before .before .before .point-of .ensures, ← c .before .before .before .before .project .ensures, c .if1 .left)
+unfolding squaredOf beyondUnder measureOf isBeyond
+returns-2 c = rw (← c .before .before .before .before .before .point-of .ensures, ← c .before .before .before .before .project .ensures, c .if1 .left) (refl, (refl, omega arith))
 
 pub squared-residual-spec : {M : Type 1} → statement M
 squared-residual-spec =
@@ -37,6 +41,6 @@ squared-residual-spec =
     project-requires
     point-of-requires-2
     squared-apart-requires
-    float-from-bits-result
+    float-from-bits-t9
     returns
     returns-2)

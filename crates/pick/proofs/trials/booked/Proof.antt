@@ -7,9 +7,6 @@ use Rattle.pick.proofs.trials.booked.Tie as tie
 enum-known-v : tie.Need-enum-known-v
 enum-known-v c = search needs
 
-refused-requires : tie.Need-refused-requires
-refused-requires c κs = search needs
-
 enum-told : tie.Need-enum-told
 enum-told c = search needs
 
@@ -29,7 +26,7 @@ booked-scored-requires : tie.Need-booked-scored-requires
 booked-scored-requires c κs = search needs
 
 returns : tie.Need-returns
-returns c = books-refused _ _ _ (c .before .before .v .given .1) (c .refused .ensures)
+returns c = books-refused _ _ (c .before .v .given .1)
 
 returns-2 : tie.Need-returns-2
 returns-2 c = books-empty _ _ _ (c .before .enum-told .given .1) (c .booked-empty .ensures)
@@ -45,7 +42,6 @@ booked-spec =
     tie.close
     (tie.spec
     enum-known-v
-    refused-requires
     enum-told
     booked-empty-requires
     enum-known-v-2

@@ -21,15 +21,15 @@ returns c = late _ (c .before .before .is-closed .ensures) _ (c .before .if1 .ta
 judge-requires : tie.Need-judge-requires
 judge-requires c κs = search needs
 
-booked-requires : tie.Need-booked-requires
+answered-requires : tie.Need-answered-requires
 unfolding isClosed bookOf
-booked-requires c κs = sym (c .before .before .before .is-closed .ensures) ∙ c .before .before .if1 .left
+answered-requires c κs = sym (c .before .before .before .is-closed .ensures) ∙ c .before .before .if1 .left
 
 returns-2 : tie.Need-returns-2
 unfolding stepAnswer viewState
-returns-2 c = in-time _ (c .before .before .before .before .is-closed .ensures) _ (c .before .before .before .if1 .left) (c .before .judge .ensures) (c .booked .ensures)
+returns-2 c = in-time _ (c .before .before .before .before .is-closed .ensures) _ (c .before .before .before .if1 .left) (c .before .judge .ensures) (c .answered .ensures)
 
 pub step-spec : {M : Type 1} → statement M
 step-spec =
     tie.close
-    (tie.spec is-closed-requires refused-requires returns judge-requires booked-requires returns-2)
+    (tie.spec is-closed-requires refused-requires returns judge-requires answered-requires returns-2)

@@ -5,7 +5,7 @@ use Rattle.book.specs.Calls.{isClosed}
 use Rattle.pick.specs.Run.{bookOf, viewState}
 use Rattle.pick.specs.Trial.{trialAnswer}
 use Rattle.pick.proofs.Booking.{late, early-refused, in-time}
-use Rattle.pick.proofs.Order.{other-run, bad-marks, same-judged}
+use Rattle.pick.proofs.Order.{other-run, bad-marks, judged-with-6}
 use Rattle.pick.proofs.trials.trial.Statement.{statement}
 use Rattle.pick.proofs.trials.trial.Tie as tie
 
@@ -44,14 +44,14 @@ returns-3 c =
 judge-requires : tie.Need-judge-requires
 judge-requires c κs = search needs
 
-booked-requires : tie.Need-booked-requires
+answered-requires : tie.Need-answered-requires
 unfolding isClosed bookOf
-booked-requires c κs = sym (c .before .before .before .before .before .before .before .before .is-closed .ensures) ∙ c .before .before .before .before .before .before .before .if1 .left
+answered-requires c κs = sym (c .before .before .before .before .before .before .before .before .is-closed .ensures) ∙ c .before .before .before .before .before .before .before .if1 .left
 
 returns-4 : tie.Need-returns-4
 unfolding trialAnswer viewState
 returns-4 c =
-    in-time _ (c .before .before .before .before .before .before .before .before .before .is-closed .ensures) _ (c .before .before .before .before .before .before .before .before .if1 .left) (c .before .judge .ensures ∙ same-judged _ _ _ (c .before .before .before .before .before .before .before .mark-count .ensures) (c .before .before .before .before .before .if2 .left) (c .before .before .before .before .check-marks .ensures) (c .before .before .before .if3 .left)) (c .booked .ensures)
+    in-time _ (c .before .before .before .before .before .before .before .before .before .is-closed .ensures) _ (c .before .before .before .before .before .before .before .before .if1 .left) (judged-with-6 _ _ _ (c .before .before .before .before .before .before .before .mark-count .ensures) (c .before .before .before .before .before .if2 .left) (c .before .before .before .before .check-marks .ensures) (c .before .before .before .if3 .left) (c .before .judge .ensures)) (c .answered .ensures)
 
 pub trial-spec : {M : Type 1} → statement M
 trial-spec =
@@ -67,5 +67,5 @@ trial-spec =
     refused-requires-3
     returns-3
     judge-requires
-    booked-requires
+    answered-requires
     returns-4)

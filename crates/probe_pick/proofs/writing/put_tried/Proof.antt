@@ -7,6 +7,9 @@ use Rattle.probe_pick.proofs.writing.put_tried.Tie as tie
 outcome-words-requires : tie.Need-outcome-words-requires
 outcome-words-requires c κs = search needs
 
+cast-t8 : tie.Need-cast-t8
+cast-t8 c = search needs
+
 sub-put-state : tie.Need-sub-put-state
 sub-put-state c = search needs
 
@@ -34,6 +37,21 @@ part-put-end c = search needs
 put-requires : tie.Need-put-requires
 put-requires c κs = search needs
 
+slice-aggregate-put-2 : tie.Need-slice-aggregate-put-2
+slice-aggregate-put-2 c = search needs
+
+sub-put-2 : tie.Need-sub-put-2
+sub-put-2 c = search needs
+
+part-put-start-2 : tie.Need-part-put-start-2
+part-put-start-2 c = search needs
+
+part-put-end-2 : tie.Need-part-put-end-2
+part-put-end-2 c = search needs
+
+put-requires-2 : tie.Need-put-requires-2
+put-requires-2 c κs = search needs
+
 same-length : tie.Need-same-length
 same-length c = search needs
 
@@ -45,6 +63,7 @@ put-tried-spec =
     tie.close
     (tie.spec
     outcome-words-requires
+    cast-t8
     sub-put-state
     part-put-state-start
     part-put-state-end
@@ -54,5 +73,10 @@ put-tried-spec =
     part-put-start
     part-put-end
     put-requires
+    slice-aggregate-put-2
+    sub-put-2
+    part-put-start-2
+    part-put-end-2
+    put-requires-2
     same-length
     returns)
