@@ -72,7 +72,7 @@ fn trial(case: &Case, outcome: u64, list: &[Model]) -> f64 {
         pick::open(&case.options.record(), marks, stops, &mut state),
         0
     );
-    let mut out = [0; 27];
+    let mut out = [0; 28];
     let first = trial_record(&case.trials[0]);
     assert_eq!(pick::trial(&state, &first, marks, stops, &mut out), 0);
     state.copy_from_slice(&out[..24]);

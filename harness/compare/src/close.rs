@@ -1,5 +1,6 @@
 //! What comes up in runs where the rms decides, counted by the book.
 
+use crate::all_came;
 use oracle::book::{Best, Book, Call, Options, Outcome, trial_record};
 use oracle::cases::step;
 use oracle::pick_cases::Case;
@@ -29,12 +30,22 @@ pub struct Close {
 impl Close {
     /// Sees that all of it came up.
     pub fn met(&self) {
-        let counts = [
-            [self.runs, self.trials, self.ties, self.won],
-            [self.won_by_one, self.equal, self.held_by_one, self.not_told],
-            [self.again, self.refit_stands, self.at_thresh, 1],
-        ];
-        assert!(counts.iter().flatten().all(|&count| count > 0), "{self:?}");
+        assert!(
+            all_came(&[
+                self.runs,
+                self.trials,
+                self.ties,
+                self.won,
+                self.won_by_one,
+                self.equal,
+                self.held_by_one,
+                self.not_told,
+                self.again,
+                self.refit_stands,
+                self.at_thresh
+            ]),
+            "{self:?}"
+        );
     }
 
     /// A scored trial that has the winner's count.
@@ -71,7 +82,7 @@ impl Close {
         self.runs += 1;
         for trial in &case.trials {
             let before = book.winner;
-            let outcome = book.call(
+            let answer = book.call(
                 &case.options,
                 case.n() as u64,
                 &Call {
@@ -80,8 +91,8 @@ impl Close {
                     stops: &case.stops,
                 },
             );
-            self.trials += usize::from(outcome.number() == 0);
-            let (Outcome::Held(count, rms) | Outcome::Won(count, rms)) = outcome else {
+            self.trials += usize::from(answer.number() == 0);
+            let (Outcome::Held(count, rms) | Outcome::Won(count, rms)) = answer.outcome else {
                 continue;
             };
             let stands = self.standing(case, trial);

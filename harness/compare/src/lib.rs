@@ -1,6 +1,7 @@
 //! What the comparison tests share.
 
 pub mod close;
+pub mod folded;
 
 /// How many random cases: SALGHEMU_CASES, or the test's own number, times
 /// SALGHEMU_TIMES.
@@ -61,4 +62,9 @@ impl Tally {
             assert!(self.0[k as usize] > 0, "no case of {k}");
         }
     }
+}
+
+/// Whether each of the counted things came up.
+pub fn all_came(counts: &[usize]) -> bool {
+    counts.iter().all(|&count| count > 0)
 }

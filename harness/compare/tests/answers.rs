@@ -44,3 +44,31 @@ fn the_sheet_file_shows_every_refusal() {
         }
     }
 }
+
+/// Distances of every kind with s > 0, s = +inf too, and marks that are beyond
+/// by every kind of s that isn't.
+#[test]
+fn the_sheet_file_shows_every_distance() {
+    let mut shown = BTreeSet::new();
+    let accepted = |record: &sheets::Record| record[0] == 4 && record[4] == 0;
+    for record in sheets::records().into_iter().filter(accepted) {
+        let [number, h6, h7, h8, x, y] =
+            [116, 11, 12, 13, 14, 15].map(|k| f64::from_bits(record[k]));
+        let s = (h6 * x + h7 * y) + h8;
+        assert_eq!(record[117], u64::from(!(s > 0.0)));
+        if record[117] == 1 {
+            assert_eq!(record[116], 0);
+            shown.insert(format!("beyond by {s}"));
+        } else {
+            shown.insert(format!("{:?}", number.classify()));
+            shown.insert(format!("s = {s}"));
+        }
+    }
+    for kind in ["Zero", "Normal", "Infinite", "Nan", "s = inf"] {
+        assert!(shown.contains(kind), "no {kind}: {shown:?}");
+    }
+    for s in ["-1", "0", "-0", "-inf", "NaN"] {
+        let kind = format!("beyond by {s}");
+        assert!(shown.contains(&kind), "no {kind}: {shown:?}");
+    }
+}

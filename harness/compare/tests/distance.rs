@@ -1,22 +1,27 @@
-//! The proved distance, residual and projection against plain formulas.
+//! The proved distance, residual and projection against plain formulas: a
+//! number, that the mark is beyond, or the refusal.
 
-use compare::{cases, is_long, same};
+use compare::{all_came, cases, is_long, same};
 use oracle::cases::Random;
 use oracle::entries;
 use oracle::sheet_cases::{distance, distance_traps};
-use oracle::{Mark, Model};
+use oracle::{Mark, Measure, Model, measure};
+use proved::BEYOND;
 
 #[derive(Debug, Default)]
 struct Tally {
     record: usize,
     point: usize,
+    /// Numbers: finite, infinite, a NaN, and any with s = +inf.
     finite: usize,
     infinite: usize,
     nan: usize,
-    /// s is 0 or -0, negative, infinite, a NaN.
+    inf_s: usize,
+    /// Beyond, by s: 0, -0, negative, -inf, a NaN.
     zero_s: usize,
+    minus_zero_s: usize,
     negative_s: usize,
-    infinite_s: usize,
+    minus_inf_s: usize,
     nan_s: usize,
 }
 
@@ -28,13 +33,24 @@ fn projection(h: &Model, x: f64, y: f64) -> [f64; 3] {
     [s, across, down]
 }
 
+/// What the proved code tells of an answer, and its number; a NaN stands for
+/// none.
+fn told(answer: Result<Measure, u32>) -> (u32, f64) {
+    match answer {
+        Ok(Measure::Distance(number)) => (0, number),
+        Ok(Measure::Beyond) => (BEYOND, f64::NAN),
+        Err(number) => (number, f64::NAN),
+    }
+}
+
 /// Compares the residual and the projection, which refuse nothing.
 fn compare_formulas(h: &Model, mark: &Mark) {
+    let (word, number) = told(Ok(measure(h, mark)));
+    assert_eq!(proved::residual_told(h, mark), word, "{h:?} {mark:?}");
     let ours = proved::residual(h, mark);
-    let theirs = oracle::distance(h, mark);
     assert!(
-        same(ours, theirs),
-        "{h:?} {mark:?}: {ours:e}, not {theirs:e}"
+        same(ours, number),
+        "{h:?} {mark:?}: {ours:e}, not {number:e}"
     );
     let [x, y, ..] = *mark;
     for (place, number) in (0..).zip(projection(h, x, y)) {
@@ -47,42 +63,59 @@ fn compare_formulas(h: &Model, mark: &Mark) {
 }
 
 fn compare(h: &Model, mark: &Mark, tally: &mut Tally) {
-    let theirs = entries::distance(h, mark);
+    let (word, number) = told(entries::distance(h, mark));
+    assert_eq!(proved::distance_told(h, mark), word, "{h:?} {mark:?}");
     let ours = proved::distance(h, mark);
-    let number = theirs.err().unwrap_or(0);
-    assert_eq!(proved::distance_refusal(h, mark), number, "{h:?} {mark:?}");
-    let expected = theirs.unwrap_or(f64::NAN);
     assert!(
-        same(ours, expected),
-        "{h:?} {mark:?}: {ours:e}, not {expected:e}"
+        same(ours, number),
+        "{h:?} {mark:?}: {ours:e}, not {number:e}"
     );
     compare_formulas(h, mark);
-    match number {
-        0 => tally.count(expected, projection(h, mark[0], mark[1])[0]),
+    let [s, ..] = projection(h, mark[0], mark[1]);
+    match word {
+        0 => tally.number(number, s),
         1 => tally.record += 1,
+        BEYOND => tally.beyond(s),
         _ => tally.point += 1,
     }
 }
 
 impl Tally {
-    /// Counts an accepted one.
-    fn count(&mut self, distance: f64, s: f64) {
+    fn number(&mut self, distance: f64, s: f64) {
+        assert!(s > 0.0);
         self.finite += usize::from(distance.is_finite());
         self.infinite += usize::from(distance.is_infinite());
         self.nan += usize::from(distance.is_nan());
-        self.zero_s += usize::from(s == 0.0);
-        self.negative_s += usize::from(s < 0.0);
-        self.infinite_s += usize::from(s == f64::INFINITY);
+        self.inf_s += usize::from(s == f64::INFINITY);
+    }
+
+    fn beyond(&mut self, s: f64) {
+        let minus_zero = s == 0.0 && s.is_sign_negative();
+        self.zero_s += usize::from(s == 0.0 && !minus_zero);
+        self.minus_zero_s += usize::from(minus_zero);
+        self.negative_s += usize::from(s < 0.0 && s.is_finite());
+        self.minus_inf_s += usize::from(s == f64::NEG_INFINITY);
         self.nan_s += usize::from(s.is_nan());
     }
 
-    /// Sees that every answer came, and s of every kind.
+    /// Sees that every answer came, by s of every kind.
     fn met(&self) {
-        let refused = [self.record, self.point];
-        let answers = [self.finite, self.infinite, self.nan];
-        let kinds_of_s = [self.zero_s, self.negative_s, self.infinite_s, self.nan_s];
-        let counts = [refused.as_slice(), &answers, &kinds_of_s].concat();
-        assert!(counts.iter().all(|&count| count > 0));
+        assert!(
+            all_came(&[
+                self.record,
+                self.point,
+                self.finite,
+                self.infinite,
+                self.nan,
+                self.inf_s,
+                self.zero_s,
+                self.minus_zero_s,
+                self.negative_s,
+                self.minus_inf_s,
+                self.nan_s
+            ]),
+            "{self:?}"
+        );
     }
 }
 

@@ -1,12 +1,12 @@
 //! The proved measuring and scoring: lists of squared distances of any numbers
 //! against the plain computation, bit for bit.
 
-use compare::{cases, is_long, junk, same, same_lists};
+use compare::{all_came, cases, is_long, junk, same, same_lists};
 use oracle::cases::{NANS, Random, step};
 use oracle::scoring::{self, Limits, squared};
 use oracle::scoring_cases::{best, count, sheet, squares, thresh};
 use oracle::sheet_cases::room;
-use oracle::{Mark, Model, distance};
+use oracle::{Mark, Model, beyond, distance};
 use proved::scoring as proved;
 
 /// What came up, so that a run of many shows what was reached.
@@ -38,15 +38,29 @@ struct Tally {
 
 impl Tally {
     fn met(&self) {
-        let counts = [
-            [self.within, self.between, self.between_within],
-            [self.at_thresh, self.no_low, self.no_high],
-            [self.wrong_count, self.infinite, self.below],
-            [self.told, self.not_told, self.equal],
-            [self.one_above, self.one_below, self.no_room],
-            [self.too_many, self.lists, self.squares],
-        ];
-        assert!(counts.iter().flatten().all(|&count| count > 0), "{self:?}");
+        assert!(
+            all_came(&[
+                self.within,
+                self.between,
+                self.between_within,
+                self.at_thresh,
+                self.no_low,
+                self.no_high,
+                self.wrong_count,
+                self.infinite,
+                self.below,
+                self.told,
+                self.not_told,
+                self.equal,
+                self.one_above,
+                self.one_below,
+                self.no_room,
+                self.too_many,
+                self.lists,
+                self.squares
+            ]),
+            "{self:?}"
+        );
     }
 
     fn list(&mut self, limits: &Limits, list: &[f64]) {
@@ -220,7 +234,8 @@ fn specials() {
 
 // Measuring.
 
-/// How often s was of each kind, and how often there was no room.
+/// How often s was of each kind, how often some marks of a list were beyond or
+/// all, and how often there was no room.
 #[derive(Debug, Default)]
 struct Kinds {
     marks: usize,
@@ -230,7 +245,11 @@ struct Kinds {
     infinite: usize,
     nan: usize,
     nan_square: usize,
+    some_beyond: usize,
+    all_beyond: usize,
     no_room: usize,
+    /// With marks beyond, of which none is told.
+    no_room_beyond: usize,
 }
 
 impl Kinds {
@@ -245,29 +264,54 @@ impl Kinds {
         self.nan_square += usize::from(squared(h, mark).is_nan());
     }
 
+    /// A list of so many marks, and how many of them are beyond.
+    fn list(&mut self, marks: usize, beyond: usize, room: usize) {
+        self.some_beyond += usize::from(0 < beyond && beyond < marks);
+        self.all_beyond += usize::from(0 < beyond && beyond == marks);
+        self.no_room += usize::from(room < marks);
+        self.no_room_beyond += usize::from(room < marks && beyond > 0);
+    }
+
     fn met(&self) {
-        let signs = [self.positive, self.zero, self.negative];
-        let others = [self.infinite, self.nan, self.nan_square, self.no_room];
-        assert!(signs.iter().chain(&others).all(|&count| count > 0));
+        assert!(
+            all_came(&[
+                self.positive,
+                self.zero,
+                self.negative,
+                self.infinite,
+                self.nan,
+                self.nan_square,
+                self.some_beyond,
+                self.all_beyond,
+                self.no_room,
+                self.no_room_beyond,
+                self.marks
+            ]),
+            "{self:?}"
+        );
     }
 }
 
-/// Measures, with the whole lent list; each square's root is the distance.
+/// Measures, with the whole lent list and how many are beyond; each square's
+/// root is the distance.
 fn measure(h: &Model, marks: &[f64], room: usize, kinds: &mut Kinds) {
     let list: &[Mark] = marks.as_chunks().0;
-    let mut theirs = junk(room);
-    kinds.no_room += usize::from(room < list.len());
+    let (mut theirs, mut told) = (junk(room), 0);
+    let all_beyond = list.iter().filter(|mark| beyond(h, mark)).count();
+    kinds.list(list.len(), all_beyond, room);
     for mark in list {
         kinds.mark(h, mark);
         assert!(same(squared(h, mark).sqrt(), distance(h, mark)));
     }
     if list.len() <= room {
+        told = all_beyond;
         for (place, mark) in theirs.iter_mut().zip(list) {
             *place = squared(h, mark);
         }
     }
     let mut ours = junk(room);
-    proved::squared_residuals(h, marks, &mut ours);
+    let number = proved::squared_residuals(h, marks, &mut ours);
+    assert_eq!(number, told, "room {room}, {h:?} {marks:?}");
     assert!(same_lists(&ours, &theirs), "room {room}, {h:?} {marks:?}");
 }
 

@@ -1,6 +1,7 @@
 //! The proved opening and trial, one call at a time: against `ransac_fit` at
 //! the end, and against the book at every step.
 
+use compare::folded::Folded;
 use compare::{Tally, junk_words};
 use oracle::book::{Book, Call, Options, State, Words, trial_record};
 use oracle::cases::{NANS, Random};
@@ -16,8 +17,8 @@ use proved::pick::{self, NO_WORDS};
 /// A number of runs from which on every answer must come up.
 const LONG: usize = 2_000;
 
-/// A trial's 27 words.
-type Told = [u64; 27];
+/// A trial's 28 words.
+type Told = [u64; 28];
 
 fn of_type(options: &Options) -> pick::Options {
     pick::Options {
@@ -62,20 +63,20 @@ fn open_options(options: &Options, marks: &[f64], stops: &[u32]) -> u32 {
 
 /// One trial call on any words, with more room than it needs.
 fn called(words: &Words, call: &Call) -> Told {
-    let mut out = junk_words(28);
+    let mut out = junk_words(29);
     let answer = pick::trial(words, call.record, call.marks, call.stops, &mut out);
     assert_eq!(answer, 0);
-    assert_eq!(out[27], junk_words(28)[27]);
-    out[..27].try_into().expect("27 words")
+    assert_eq!(out[28], junk_words(29)[28]);
+    out[..28].try_into().expect("28 words")
 }
 
 /// What the book has for the same call.
 fn expected(words: &Words, call: &Call) -> Told {
     let mut state = State::of_words(words);
-    let outcome = state.trial(call);
-    let mut told = [0; 27];
+    let answer = state.trial(call);
+    let mut told = [0; 28];
     told[..24].copy_from_slice(&state.words());
-    told[24..].copy_from_slice(&outcome.words());
+    told[24..].copy_from_slice(&answer.words());
     told
 }
 
@@ -103,22 +104,34 @@ fn opening(case: &Case) -> Words {
     words
 }
 
-/// How often each outcome came, and how often the bound rose.
+/// How often each outcome came, how often the bound rose, and how often marks
+/// were beyond.
 #[derive(Debug, Default)]
-struct Outcomes([usize; 5], usize);
+struct Outcomes {
+    times: [usize; 5],
+    rose: usize,
+    folded: Folded,
+}
 
 impl Outcomes {
-    fn add(&mut self, before: &Words, told: &Told) {
-        self.0[told[24] as usize] += 1;
-        self.1 += usize::from(told[10] > before[10]);
+    fn add(&mut self, before: &Words, call: &Call, told: &Told) {
+        self.times[told[24] as usize] += 1;
+        self.rose += usize::from(told[10] > before[10]);
+        self.folded.add(before, call, &told[24..]);
+    }
+
+    /// Sees that all of it came.
+    fn met(&self) {
+        assert!(self.times.iter().all(|&times| times > 0) && self.rose > 0);
+        self.folded.met();
     }
 }
 
 // The document's sheets.
 
 /// Trials on the square, from an opening of its own: the outcome, count and
-/// rms of each.
-fn on_the_square(thresh: f64, min_inliers: u32, trials: &[Trial]) -> Vec<(u64, u64, f64)> {
+/// rms of each, and how many marks are beyond.
+fn on_the_square(thresh: f64, min_inliers: u32, trials: &[Trial]) -> Vec<(u64, u64, f64, u64)> {
     let stops = [9, 9, 9, 9, 3, 9];
     let options = pick::Options {
         thresh,
@@ -138,7 +151,7 @@ fn on_the_square(thresh: f64, min_inliers: u32, trials: &[Trial]) -> Vec<(u64, u
         };
         let told = compare(&words, &call);
         words = state_of(&told);
-        (told[24], told[25], f64::from_bits(told[26]))
+        (told[24], told[25], f64::from_bits(told[26]), told[27])
     };
     trials.iter().map(one).collect()
 }
@@ -150,20 +163,26 @@ fn the_documents_sheets() {
         fit: Some(model),
         refit: None,
     };
-    let pair = Trial {
-        fit: Some(I),
-        refit: Some(T),
+    let pair = |fit, refit| Trial {
+        fit: Some(fit),
+        refit: Some(refit),
     };
-    assert_eq!(on_the_square(2.0, 4, &[fit(I)]), [(4, 4, 0.0)]);
+    assert_eq!(on_the_square(2.0, 4, &[fit(I)]), [(4, 4, 0.0, 0)]);
     assert_eq!(on_the_square(3.0, 4, &[fit(I)])[0].1, 5);
-    assert_eq!(on_the_square(2.0, 4, &[fit(T)]), [(2, 1, 0.0)]);
-    assert_eq!(on_the_square(2.0, 4, &[pair]), [(4, 4, 0.0)]);
-    assert_eq!(on_the_square(2.0, 1, &[pair]), [(4, 1, 0.0)]);
-    assert_eq!(on_the_square(2.0, 1, &[fit(BEHIND)]), [(2, 0, 0.0)]);
-    let infinite = (4, 0, f64::INFINITY);
-    assert_eq!(on_the_square(2.0, 0, &[fit(BEHIND)]), [infinite]);
-    let twice = [(4, 4, 0.0), (3, 4, 0.0)];
+    assert_eq!(on_the_square(2.0, 4, &[fit(T)]), [(2, 1, 0.0, 0)]);
+    assert_eq!(on_the_square(2.0, 4, &[pair(I, T)]), [(4, 4, 0.0, 0)]);
+    assert_eq!(on_the_square(2.0, 1, &[pair(I, T)]), [(4, 1, 0.0, 0)]);
+    assert_eq!(on_the_square(2.0, 1, &[fit(BEHIND)]), [(2, 0, 0.0, 5)]);
+    let infinite = |beyond| [(4, 0, f64::INFINITY, beyond)];
+    assert_eq!(on_the_square(2.0, 0, &[fit(BEHIND)]), infinite(5));
+    let twice = [(4, 4, 0.0, 0), (3, 4, 0.0, 0)];
     assert_eq!(on_the_square(2.0, 4, &[fit(I), fit(I)]), twice);
+    // The fit's number, where the refit stands, and none without a fit.
+    assert_eq!(on_the_square(2.0, 0, &[pair(I, BEHIND)]), infinite(0));
+    let stands = [(4, 4, 0.0, 5)];
+    assert_eq!(on_the_square(2.0, 0, &[pair(BEHIND, I)]), stands);
+    let empty = Trial::default();
+    assert_eq!(on_the_square(2.0, 0, &[empty]), [(1, 0, 0.0, 0)]);
 }
 
 // Openings.
@@ -248,9 +267,9 @@ fn no_room_for_words() {
         let options = of_type(&case.options);
         let answer = pick::open_options(options, marks, stops, &mut words);
         assert_eq!(answer, NO_WORDS);
-        let mut out = junk_words(27);
+        let mut out = junk_words(28);
         let answer = pick::trial(&state[..room], &empty, marks, stops, &mut out);
-        assert_eq!((answer, out), (NO_WORDS, junk_words(27)));
+        assert_eq!((answer, out), (NO_WORDS, junk_words(28)));
         assert_eq!(words, junk_words(room));
     }
     for room in [0, 4] {
@@ -258,7 +277,7 @@ fn no_room_for_words() {
         assert_eq!(pick::new_options(2.0, &mut words), NO_WORDS);
         assert_eq!(words, junk_words(room));
     }
-    for room in [0, 24, 26] {
+    for room in [0, 24, 26, 27] {
         let mut out = junk_words(room);
         let answer = pick::trial(&state, &empty, marks, stops, &mut out);
         assert_eq!((answer, out), (NO_WORDS, junk_words(room)));
@@ -280,9 +299,9 @@ fn replayed(case: &Case, outcomes: &mut Outcomes) -> Words {
         };
         let told = compare(&words, &call);
         // The book knows nothing of the state that the calls hand on.
-        let outcome = book.call(&case.options, case.n() as u64, &call);
-        assert_eq!(outcome.words(), told[24..], "{case:?}");
-        outcomes.add(&words, &told);
+        let answer = book.call(&case.options, case.n() as u64, &call);
+        assert_eq!(answer.words(), told[24..], "{case:?}");
+        outcomes.add(&words, &call, &told);
         words = state_of(&told);
     }
     let after = State {
@@ -315,7 +334,7 @@ fn trials_give_what_ransac_fit_gives() {
     }
     println!("trials, as ransac_fit: {outcomes:?}");
     if count >= LONG {
-        assert!(outcomes.0.iter().all(|&times| times > 0) && outcomes.1 > 0);
+        outcomes.met();
     }
 }
 
@@ -340,7 +359,7 @@ fn trials_with_any_stop_list() {
     }
     println!("trials, any stops: {outcomes:?}");
     if count >= LONG {
-        assert!(outcomes.0.iter().all(|&times| times > 0) && outcomes.1 > 0);
+        outcomes.met();
     }
 }
 
@@ -416,7 +435,7 @@ fn refused_calls_in_between() {
             }
             let told = compare(&words, &handed.call());
             tally.add(number_of(&told));
-            assert!(told[24] != 0 || words == state_of(&told));
+            assert!(told[24] != 0 || (words == state_of(&told) && told[26..] == [0; 2]));
             words = state_of(&told);
         }
     }
@@ -439,6 +458,7 @@ fn pool(case: &Case) -> Vec<Model> {
 fn hand_made_states() {
     let random = &mut Random::new(47);
     let mut tally = Tally::default();
+    let mut folded = Folded::default();
     let count = runs(20_000, 50);
     for i in 0..count {
         let case = any_stops(random, i);
@@ -452,11 +472,15 @@ fn hand_made_states() {
             1 => handed.marks.truncate(4 * words[5].min(2000) as usize),
             _ => {}
         }
-        tally.add(number_of(&compare(&words, &handed.call())));
+        let told = compare(&words, &handed.call());
+        tally.add(number_of(&told));
+        folded.add(&words, &handed.call(), &told[24..]);
     }
     tally.show("trials on hand-made states");
+    println!("trials on hand-made states: {folded:?}");
     if count >= LONG {
         tally.met(&[0, 1, 5, 6, 7, 8, 10]);
+        folded.thresholds_met();
     }
 }
 
@@ -506,23 +530,24 @@ fn states_at_the_limits() {
 #[test]
 fn hand_made_thresholds() {
     let case = oracle::example::sheet();
-    let behind = [1.0, 0.0, 0.0, 0.0, 1.0, 0.0, 0.0, 0.0, -1.0];
-    let trial = Trial {
-        fit: Some(behind),
-        refit: None,
+    let tried = |words: &Words, model| {
+        let trial = Trial {
+            fit: Some(model),
+            refit: None,
+        };
+        compare(words, &Handed::of(&case, &trial).call())
     };
     let infinite = f64::INFINITY.to_bits();
-    let handed = Handed::of(&case, &trial);
     let mut words = opening(&case);
     words[0] = infinite;
-    let told = compare(&words, &handed.call());
-    assert_eq!(told[24..], [4, 5, infinite]);
+    assert_eq!(tried(&words, BEHIND)[24..], [4, 5, infinite, 5]);
     for nan in NANS {
         words[0] = nan;
         words[1] = nan;
-        let told = compare(&words, &Handed::of(&case, &case.trials[0]).call());
-        assert_eq!(told[24..], [2, 0, 0]);
+        let told = tried(&words, I);
+        assert_eq!(told[24..], [2, 0, 0, 0]);
         assert_eq!(told[..2], [0x7ff8_0000_0000_0000; 2]);
+        assert_eq!(tried(&words, BEHIND)[24..], [2, 0, 0, 5]);
     }
 }
 

@@ -145,7 +145,7 @@ fn tried(record: &[u8], refit: bool) -> (u64, u64, Vec<f64>) {
         ..Options::new(2.0)
     };
     let state = State::open(options, &SQUARE, &STOPS).expect("an accepted opening");
-    let mut out = [0; 27];
+    let mut out = [0; 28];
     let answer = pick::trial(&state.words(), record, &SQUARE, &STOPS, &mut out);
     assert_eq!(answer, 0);
     let model = out[15..24].iter().map(|&word| f64::from_bits(word));

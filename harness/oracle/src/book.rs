@@ -1,13 +1,13 @@
-//! 01's picker, read from its text alone: the records, the refusals in their
-//! orders, judging a trial, the book, a trial on any state, and the winner's
-//! indices. Nothing here is taken from `ransac_fit`, so that each can be held
-//! to the other.
+//! 01's picker, read from its text alone, with what 02's order 2 adds to a
+//! trial's answer: the records, the refusals in their orders, judging a trial,
+//! the book, a trial on any state, and the winner's indices. Nothing here is
+//! taken from `ransac_fit`, so that each can be held to the other.
 //!
 //! Marks are one flat list, four numbers each. A refusal is its number.
 
 use crate::entries::{FEW, POINT, RECORD, ROOM, SHAPE};
 use crate::records::bits;
-use crate::{Mark, Model, Trial, distance};
+use crate::{Mark, Model, Trial, beyond, distance};
 
 /// Refusal 2 THRESH.
 pub const THRESH: u32 = 2;
@@ -198,6 +198,20 @@ pub enum Judged {
     Scored(Scored),
 }
 
+/// How many marks are beyond under the fit, also where the refit stands; 0
+/// without a fit.
+fn beyond_under_fit(trial: &Trial, marks: &[Mark]) -> u32 {
+    let mut count = 0;
+    if let Some(fit) = &trial.fit {
+        for mark in marks {
+            if beyond(fit, mark) {
+                count += 1;
+            }
+        }
+    }
+    count
+}
+
 /// How many marks lie within the threshold, and the rms of their distances.
 fn score(thresh: f64, model: &Model, marks: &[Mark]) -> (u32, f64) {
     let (mut count, mut sum) = (0, 0.0);
@@ -214,26 +228,34 @@ fn score(thresh: f64, model: &Model, marks: &[Mark]) -> (u32, f64) {
     (count, rms)
 }
 
-/// Refuses in the order 5, 6, 7, 8, 1, or judges.
-pub fn judge(options: &Options, n: u64, call: &Call) -> Judged {
-    match judged_trial(options, n, call) {
-        Ok(judged) => judged,
-        Err(number) => Judged::Refused(number),
+/// Refuses in the order 5, 6, 7, 8, 1, or judges. With it, how many marks are
+/// beyond under the fit; 0 where it refuses.
+pub fn judge(options: &Options, n: u64, call: &Call) -> (Judged, u32) {
+    match tested(n, call) {
+        Ok((trial, marks)) => {
+            let judged = judged_trial(options, &trial, marks, call.stops);
+            (judged, beyond_under_fit(&trial, marks))
+        }
+        Err(number) => (Judged::Refused(number), 0),
     }
 }
 
-fn judged_trial(options: &Options, n: u64, call: &Call) -> Result<Judged, u32> {
+/// The trial and the marks of a call that isn't refused.
+fn tested<'a>(n: u64, call: &Call<'a>) -> Result<(Trial, &'a [Mark]), u32> {
     let marks = marks_tested(call.marks, Some(n))?;
     if call.stops.len() != marks.len() + 1 {
         return Err(STOPS);
     }
-    let trial = trial_of_record(call.record)?;
+    Ok((trial_of_record(call.record)?, marks))
+}
+
+fn judged_trial(options: &Options, trial: &Trial, marks: &[Mark], stops: &[u32]) -> Judged {
     let Some(fit) = trial.fit else {
-        return Ok(Judged::Empty);
+        return Judged::Empty;
     };
     let of_fit = score(options.thresh, &fit, marks);
     if of_fit.0 < options.min_inliers {
-        return Ok(Judged::Few(of_fit.0));
+        return Judged::Few(of_fit.0);
     }
     let (mut model, mut standing) = (fit, of_fit);
     if let (true, Some(refit)) = (options.refit, trial.refit) {
@@ -243,13 +265,13 @@ fn judged_trial(options: &Options, n: u64, call: &Call) -> Result<Judged, u32> {
         }
     }
     let (count, rms) = standing;
-    let stop = call.stops[count as usize];
-    Ok(Judged::Scored(Scored {
+    let stop = stops[count as usize];
+    Judged::Scored(Scored {
         model,
         count,
         rms,
         stop,
-    }))
+    })
 }
 
 // The book.
@@ -269,6 +291,14 @@ pub enum Outcome {
     Few(u32),
     Held(u32, f64),
     Won(u32, f64),
+}
+
+/// A trial's answer, but for the state.
+#[derive(Clone, Copy, Debug)]
+pub struct Answer {
+    pub outcome: Outcome,
+    /// How many marks are beyond under the fit.
+    pub beyond: u32,
 }
 
 #[derive(Clone, Copy, Debug)]
@@ -298,11 +328,16 @@ impl Book {
     }
 
     /// Books one call: 10 at the end, then what the trial is judged to be.
-    pub fn call(&mut self, options: &Options, n: u64, call: &Call) -> Outcome {
+    pub fn call(&mut self, options: &Options, n: u64, call: &Call) -> Answer {
         if self.ended() {
-            return Outcome::Refused(ENDED);
+            return Answer::refused(ENDED);
         }
-        let judged = judge(options, n, call);
+        let (judged, beyond) = judge(options, n, call);
+        let outcome = self.booked(options.max_iters, judged);
+        Answer { outcome, beyond }
+    }
+
+    fn booked(&mut self, max_iters: u32, judged: Judged) -> Outcome {
         if let Judged::Refused(number) = judged {
             return Outcome::Refused(number);
         }
@@ -317,7 +352,7 @@ impl Book {
                 self.few += 1;
                 Outcome::Few(count)
             }
-            Judged::Scored(scored) => self.enter(options.max_iters, scored),
+            Judged::Scored(scored) => self.enter(max_iters, scored),
         }
     }
 
@@ -385,7 +420,7 @@ impl State {
 
     /// A trial on any state. The options are used as they are; refused, the
     /// state stays.
-    pub fn trial(&mut self, call: &Call) -> Outcome {
+    pub fn trial(&mut self, call: &Call) -> Answer {
         let Book {
             read,
             empty,
@@ -394,7 +429,7 @@ impl State {
             ..
         } = self.book;
         if read >= MOST_ITERS || empty > read || few > read || scored > read {
-            return Outcome::Refused(ENDED);
+            return Answer::refused(ENDED);
         }
         self.book.call(&self.options, self.n, call)
     }
@@ -466,18 +501,34 @@ impl State {
     }
 }
 
-impl Outcome {
-    /// Which outcome, the refusal's number or the count, and the rms's bits.
-    pub fn words(&self) -> [u64; 3] {
-        match *self {
-            Self::Refused(number) => [0, number.into(), 0],
-            Self::Empty => [1, 0, 0],
-            Self::Few(count) => [2, count.into(), 0],
-            Self::Held(count, rms) => [3, count.into(), bits(rms)],
-            Self::Won(count, rms) => [4, count.into(), bits(rms)],
+impl Answer {
+    fn refused(number: u32) -> Self {
+        Self {
+            outcome: Outcome::Refused(number),
+            beyond: 0,
         }
     }
 
+    /// Which outcome, the refusal's number or the count, the rms's bits, and
+    /// how many are beyond.
+    pub fn words(&self) -> [u64; 4] {
+        let [which, count, rms] = match self.outcome {
+            Outcome::Refused(number) => [0, number.into(), 0],
+            Outcome::Empty => [1, 0, 0],
+            Outcome::Few(count) => [2, count.into(), 0],
+            Outcome::Held(count, rms) => [3, count.into(), bits(rms)],
+            Outcome::Won(count, rms) => [4, count.into(), bits(rms)],
+        };
+        [which, count, rms, self.beyond.into()]
+    }
+
+    /// The refusal's number, or 0.
+    pub fn number(&self) -> u32 {
+        self.outcome.number()
+    }
+}
+
+impl Outcome {
     /// The refusal's number, or 0.
     pub fn number(&self) -> u32 {
         match self {

@@ -5,7 +5,7 @@
 //! anything else for the pixels. Results go to a lent list: a refusal leaves
 //! it as it was, and places past the last written stay.
 
-use crate::sheet::{self, Mark, Model, Point};
+use crate::sheet::{self, Mark, Measure, Model, Point};
 use vision_geometry::GeometryError;
 
 /// Refusal 1 RECORD.
@@ -101,12 +101,12 @@ fn number(error: &GeometryError) -> u32 {
 }
 
 /// Distance: 1 for the model, then 6 for the mark.
-pub fn distance(model: &Model, mark: &Mark) -> Result<f64, u32> {
+pub fn distance(model: &Model, mark: &Mark) -> Result<Measure, u32> {
     if !crate::ensure_finite(model) {
         return Err(RECORD);
     }
     allowed(mark)?;
-    Ok(sheet::distance(model, mark))
+    Ok(sheet::measure(model, mark))
 }
 
 /// The first closeness test: at most 1e-9 by the root of the sum of squares.

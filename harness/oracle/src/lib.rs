@@ -30,5 +30,6 @@ pub use pick::{
     stop_list,
 };
 pub use sheet::{
-    Mark, Model, Point, distance, dlt_rows, normalize_points_2d, points_are_collinear,
+    Mark, Measure, Model, Point, beyond, distance, dlt_rows, measure, normalize_points_2d,
+    points_are_collinear,
 };

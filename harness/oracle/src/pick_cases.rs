@@ -93,8 +93,8 @@ fn moved([across, down]: [f64; 2]) -> Model {
     h
 }
 
-/// The same map written with other numbers, or the mirrored one: every mark
-/// then is infinitely far.
+/// The same map written with other numbers, or with all signs changed: marks
+/// that were ahead of the horizon then are beyond.
 fn rescaled(random: &mut Random, h: Model) -> Model {
     let by = match random.below(6) {
         0 => -1.0,
@@ -148,6 +148,16 @@ fn flattened(random: &mut Random, n: usize) -> (Vec<f64>, Vec<Model>) {
     (marks, pool.collect())
 }
 
+/// The identity with one row under which marks that aren't small overflow: to
+/// either infinity, or to a NaN. Of the last row it is s, of the others what is
+/// divided by it.
+fn steep(random: &mut Random) -> Model {
+    let mut h = IDENTITY;
+    let row = random.pick(&[0, 3, 6, 6]);
+    (h[row], h[row + 1]) = (random.sign() * 1e308, random.sign() * 1e308);
+    h
+}
+
 /// Marks of every size under models of every size: s of every kind, sums that
 /// overflow, distances that are infinite or a NaN.
 fn any_size(random: &mut Random, i: usize, n: usize) -> (Vec<f64>, Vec<Model>) {
@@ -160,6 +170,7 @@ fn any_size(random: &mut Random, i: usize, n: usize) -> (Vec<f64>, Vec<Model>) {
             pool.push(h);
         }
     }
+    pool.push(steep(random));
     pool.push(IDENTITY);
     (marks, pool)
 }
@@ -176,12 +187,41 @@ fn far(random: &mut Random, n: usize) -> (Vec<f64>, Vec<Model>) {
     (marks, pool)
 }
 
+/// A horizon through the sheet, at x = 0 or at y = 0: s is x or y, a power of
+/// two, its negative or a zero, so that distances are exact. Marks on either
+/// side have their pixels where the map has them, or a whole number beside; the
+/// candidates are the map, moved or not, and those with the signs changed.
+fn folded(random: &mut Random, n: usize) -> (Vec<f64>, Vec<Model>) {
+    let across = random.below(2) as usize;
+    let mut marks = Vec::new();
+    for _ in 0..n {
+        let mut at = [0; 2].map(|_| random.from_to(-20, 20) as f64);
+        at[across] = random.pick(&[0.0, -0.0, 1.0, 2.0, 4.0, -1.0, -2.0, 0.5, 8.0]);
+        let [u, v] = match at[across] {
+            0.0 => [7.0, 7.0],
+            s => at.map(|number| number / s),
+        };
+        let [right, down] = random.pick(&EXACT);
+        marks.extend([at[0], at[1], u + right, v + down]);
+    }
+    let pool = (0..random.from_to(2, 6)).map(|_| {
+        let mut h = IDENTITY;
+        let [right, down] = random.pick(&EXACT);
+        (h[6 + across], h[8]) = (1.0, random.pick(&[0.0, 0.0, -0.0]));
+        (h[across], h[3 + across]) = (h[across] + right, h[3 + across] + down);
+        let sign = random.pick(&[1.0, 1.0, -1.0]);
+        rescaled(random, h.map(|a| a * sign))
+    });
+    (marks, pool.collect())
+}
+
 fn sheet(random: &mut Random, i: usize, n: usize) -> (Vec<f64>, Vec<Model>) {
-    match i % 8 {
+    match i % 9 {
         0..=2 => whole(random, n),
         3..=5 => flattened(random, n),
-        6 => any_size(random, i / 8, n),
-        _ => far(random, n),
+        6 => any_size(random, i / 9, n),
+        7 => far(random, n),
+        _ => folded(random, n),
     }
 }
 
@@ -270,7 +310,7 @@ fn marks_count(random: &mut Random, i: usize) -> usize {
 /// and there is a trial for each iteration that it may make.
 pub fn reference(random: &mut Random, i: usize) -> Case {
     let n = marks_count(random, i);
-    let kind = random.below(48) as usize;
+    let kind = random.below(54) as usize;
     let (marks, pool) = sheet(random, kind, n);
     let options = options(random, &marks, &pool);
     let trials = (0..options.max_iters).map(|_| trial(random, &pool));
@@ -469,8 +509,14 @@ pub fn rooms(random: &mut Random, marks: &[u8]) -> [usize; 2] {
 // Hand-made states.
 
 /// Words of a state that no run gives: for a list of n marks, and built on
-/// this run's state.
+/// this run's state. Now and then it is one only for its threshold, under which
+/// every mark lies or none.
 pub fn hand_made(random: &mut Random, words: &mut [u64; 24], pool: &[Model]) {
+    if random.below(8) == 0 {
+        let nan = random.pick(&NANS);
+        words[0] = random.pick(&[f64::INFINITY.to_bits(), nan]);
+        return;
+    }
     for _ in 0..random.from_to(1, 4) {
         let place = random.below(15) as usize;
         words[place] = match place {

@@ -1,19 +1,18 @@
 //! Scoring a list of squared distances, in plain Rust: the root of each, the
 //! comparison with the threshold, the sum in index order from 0.
 
-use crate::{Mark, Model};
+use crate::sheet::divisor;
+use crate::{Mark, Model, beyond};
 
 /// The square that 01's distance is the root of.
-pub fn squared(h: &Model, &[x, y, u, v]: &Mark) -> f64 {
-    let s = (h[6] * x + h[7] * y) + h[8];
-    // Not `s <= 0.0`: a NaN is infinitely far too.
-    if s > 0.0 {
-        let du = ((h[0] * x + h[1] * y) + h[2]) / s - u;
-        let dv = ((h[3] * x + h[4] * y) + h[5]) / s - v;
-        du * du + dv * dv
-    } else {
-        f64::INFINITY
+pub fn squared(h: &Model, mark: &Mark) -> f64 {
+    if beyond(h, mark) {
+        return f64::INFINITY;
     }
+    let (s, &[x, y, u, v]) = (divisor(h, mark), mark);
+    let du = ((h[0] * x + h[1] * y) + h[2]) / s - u;
+    let dv = ((h[3] * x + h[4] * y) + h[5]) / s - v;
+    du * du + dv * dv
 }
 
 /// The places of the squares whose root is at most the threshold.

@@ -1,4 +1,5 @@
-//! Marks: normalising, collinear, the rows, and 01's distance.
+//! Marks: normalising, collinear, the rows, and 01's distance, with order 2's
+//! beyond.
 
 use vision_calibration_core::{Pt2, linalg};
 use vision_geometry::{GeometryError, homography};
@@ -38,15 +39,40 @@ pub fn dlt_rows(marks: &[Mark]) -> Result<Vec<f64>, GeometryError> {
     }
 }
 
-/// 01's distance, the residual of the replayed estimator.
-pub fn distance(h: &Model, &[x, y, u, v]: &Mark) -> f64 {
-    let s = (h[6] * x + h[7] * y) + h[8];
-    // Not `s <= 0.0`: a NaN is infinitely far too.
-    if s > 0.0 {
-        let du = ((h[0] * x + h[1] * y) + h[2]) / s - u;
-        let dv = ((h[3] * x + h[4] * y) + h[5]) / s - v;
-        (du * du + dv * dv).sqrt()
-    } else {
-        f64::INFINITY
+/// What 02's order 2 has a distance say of a mark.
+#[derive(Clone, Copy, Debug, PartialEq)]
+pub enum Measure {
+    Beyond,
+    Distance(f64),
+}
+
+/// 01's s.
+pub(crate) fn divisor(h: &Model, &[x, y, ..]: &Mark) -> f64 {
+    (h[6] * x + h[7] * y) + h[8]
+}
+
+/// Whether the mark is beyond the horizon under the model: s isn't above 0.
+pub fn beyond(h: &Model, mark: &Mark) -> bool {
+    // Not `s <= 0.0`: with a NaN for s it is beyond too.
+    !(divisor(h, mark) > 0.0)
+}
+
+/// 01's distance, the residual of the replayed estimator: infinite where the
+/// mark is beyond.
+pub fn distance(h: &Model, mark: &Mark) -> f64 {
+    if beyond(h, mark) {
+        return f64::INFINITY;
+    }
+    let (s, &[x, y, u, v]) = (divisor(h, mark), mark);
+    let du = ((h[0] * x + h[1] * y) + h[2]) / s - u;
+    let dv = ((h[3] * x + h[4] * y) + h[5]) / s - v;
+    (du * du + dv * dv).sqrt()
+}
+
+/// The same, with beyond told from a number, which may be infinite too.
+pub fn measure(h: &Model, mark: &Mark) -> Measure {
+    match beyond(h, mark) {
+        true => Measure::Beyond,
+        false => Measure::Distance(distance(h, mark)),
     }
 }

@@ -390,6 +390,7 @@ pub fn distance_traps() -> Vec<(Model, Mark)> {
         (model([(6, 1.0), (8, -50.0)]), mark),
         (model([(6, 1.0), (8, step(-50.0, -1))]), mark),
         (model([(6, 1.0), (8, step(-50.0, 1))]), mark),
+        (model([(7, 1.0), (8, -50.0)]), mark),
         // s overflows: +inf with a finite distance and with none, -inf, NaN.
         (model([(6, 1e300)]), [1e9, 0.0, 3.0, 4.0]),
         (model([(6, 1e300), (7, 1e300)]), far),
@@ -404,6 +405,9 @@ pub fn distance_traps() -> Vec<(Model, Mark)> {
         // Squares overflow, and vanish.
         (model([(2, 1e200)]), mark),
         (model([(2, f64::MAX), (8, f64::MAX)]), [0.0; 4]),
+        // Beyond where the number would be a NaN, and infinite.
+        (model([(0, 1e300), (1, -1e300), (8, -1.0)]), far),
+        (model([(2, 1e200), (8, -1.0)]), mark),
         (model([(0, 1e-200), (4, 1e-200)]), [1.0, 1.0, 0.0, 0.0]),
         // The orders of sums and the single roundings show.
         (model([(6, 1e16), (7, -1e16), (8, 1.0)]), [1.0; 4]),

@@ -12,7 +12,7 @@
 //! | 4 | the refusal's number, 0 for none |
 //! | 5 to 24 | the input: marks, or for kind 4 the model h0 to h8, then x, y, u, v |
 //! | 25 to 115 | the lent list after the call; before it every place holds 7.0 |
-//! | 116 to 124 | kind 1: the matrix, row after row; kind 2 at 116: 0 no, 1 yes; kind 4 at 116: the distance |
+//! | 116 to 124 | kind 1: the matrix, row after row; kind 2 at 116: 0 no, 1 yes; kind 4 at 116: the distance, at 117: 1 where the mark is beyond, with 116 zero, else 0 |
 //! | 125 to 127 | zero |
 //!
 //! Floats are bit patterns, every NaN 7ff8000000000000; what is left is zero,
@@ -25,7 +25,7 @@ use crate::records::{bits, put};
 use crate::sheet_cases::{
     self, SQUARE, both, distance_traps, line_traps, refused_traps, spread_traps, usual_traps,
 };
-use crate::{Mark, Model};
+use crate::{Mark, Measure, Model};
 
 pub type Record = [u64; 128];
 
@@ -42,6 +42,7 @@ const BEFORE: f64 = 7.0;
 const INPUT: usize = 5;
 const LENT: usize = 25;
 const ANSWER: usize = 116;
+const BEYOND: usize = 117;
 
 /// All records, in the order of the file.
 pub fn records() -> Vec<Record> {
@@ -233,7 +234,8 @@ fn of_rows(marks: &[f64], room: usize) -> Record {
 fn of_distance(h: &Model, mark: &Mark) -> Record {
     let mut record = record(4, 0, &[h.as_slice(), mark].concat());
     match entries::distance(h, mark) {
-        Ok(distance) => record[ANSWER] = bits(distance),
+        Ok(Measure::Distance(number)) => record[ANSWER] = bits(number),
+        Ok(Measure::Beyond) => record[BEYOND] = 1,
         Err(number) => record[4] = number.into(),
     }
     record
@@ -258,6 +260,7 @@ pub fn line(record: &Record) -> String {
         (0, 1) => format!("gives the matrix {}", floats(ANSWER, 9)),
         (0, 2) => format!("is {}", record[ANSWER]),
         (0, 3) => "gives".to_string(),
+        (0, _) if record[BEYOND] == 1 => "is beyond".to_string(),
         (0, _) => format!("is {}", floats(ANSWER, 1)),
         (number, _) => format!("refused {number}"),
     };

@@ -62,7 +62,7 @@ pub fn read(opened: &Opened, trials: &[u8]) -> (Book, Vec<Outcome>) {
             marks: &opened.marks,
             stops: &opened.stops,
         };
-        outcomes.push(book.call(&options, n, &call));
+        outcomes.push(book.call(&options, n, &call).outcome);
         if outcomes.last().is_some_and(|last| last.number() != 0) {
             break;
         }

@@ -86,12 +86,12 @@ fn booked(case: &Case, tally: &mut Tally) -> State {
             break;
         }
         let before = state.book;
-        let outcome = state.trial(&Call {
+        let answer = state.trial(&Call {
             record: &trial_record(trial),
             marks: &case.marks,
             stops: &case.stops,
         });
-        tally.step(case, trial, &before, &state.book, &outcome);
+        tally.step(case, trial, &before, &state.book, &answer.outcome);
     }
     state
 }

@@ -1,6 +1,6 @@
 //! The book on 01's sheets to try, its records, its refusals and their orders.
 
-use oracle::book::{Best, Book, Call, Options, Outcome, State, trial_of_record, trial_record};
+use oracle::book::{Answer, Best, Book, Call, Options, State, trial_of_record, trial_record};
 use oracle::example::{self, BEHIND, I, SQUARE, T};
 use oracle::whole::{printed, run};
 use oracle::{Model, Trial};
@@ -28,7 +28,7 @@ fn fit(model: Model) -> [u8; 152] {
     })
 }
 
-fn try_one(state: &mut State, record: &[u8]) -> Outcome {
+fn try_one(state: &mut State, record: &[u8]) -> Answer {
     state.trial(&Call {
         record,
         marks: &SQUARE,
@@ -37,8 +37,8 @@ fn try_one(state: &mut State, record: &[u8]) -> Outcome {
 }
 
 /// The outcome as numbers: which one, the count or the refusal, the rms.
-fn told(outcome: Outcome) -> (u64, u64, f64) {
-    let [which, count, rms] = outcome.words();
+fn told(answer: Answer) -> (u64, u64, f64) {
+    let [which, count, rms, _] = answer.words();
     (which, count, f64::from_bits(rms))
 }
 
@@ -89,6 +89,92 @@ fn a_refit_stands_if_it_reaches_the_minimum() {
         "and the bound is max_iters"
     );
     assert_eq!(state.book.bound, 10);
+}
+
+/// A model under which the left half of the square is ahead: s = 50 - x is 0
+/// at the middle mark.
+const FOLDED: Model = [1.0, 0.0, 0.0, 0.0, 1.0, 0.0, -1.0, 0.0, 50.0];
+
+/// Which outcome, the count or the refusal, and how many are beyond.
+fn beyond_told(options: Options, fit: Option<Model>, refit: Option<Model>) -> (u64, u64, u32) {
+    let mut state = open(options);
+    let answer = try_one(&mut state, &trial_record(&Trial { fit, refit }));
+    let [which, count, ..] = answer.words();
+    (which, count, answer.beyond)
+}
+
+/// The fit's number is told, whatever comes of the trial: 2 is few, 4 won.
+#[test]
+fn marks_beyond_under_the_fit() {
+    for (min, fit, refit, expected) in [
+        (4, I, None, (4, 4, 0)),
+        (1, BEHIND, None, (2, 0, 5)),
+        (0, BEHIND, None, (4, 0, 5)),
+        // Three of five; the one at (0, 0) is within.
+        (1, FOLDED, None, (4, 1, 3)),
+        (2, FOLDED, None, (2, 1, 3)),
+        // The refit stands, and the fit is told of.
+        (0, I, Some(BEHIND), (4, 0, 0)),
+        (0, BEHIND, Some(I), (4, 4, 5)),
+        (1, FOLDED, Some(I), (4, 4, 3)),
+        // The refit doesn't stand.
+        (4, I, Some(BEHIND), (4, 4, 0)),
+        (1, FOLDED, Some(BEHIND), (4, 1, 3)),
+        // The fit is few, and the refit isn't looked at.
+        (1, BEHIND, Some(I), (2, 0, 5)),
+    ] {
+        let answer = beyond_told(options(2.0, 10, min, true), Some(fit), refit);
+        assert_eq!(answer, expected, "{min} {fit:?} {refit:?}");
+    }
+    let empty = beyond_told(options(2.0, 10, 0, true), None, None);
+    assert_eq!(empty, (1, 0, 0));
+}
+
+/// A distance that is infinite or a NaN isn't beyond; s that is a NaN is.
+#[test]
+fn beyond_and_not_merely_far() {
+    let mut far = I;
+    far[2] = 1e200;
+    // 1e307 * x - 1e307 * y is a NaN at two marks, inf at one and -inf at one:
+    // u's numerator, and s but for the 1.
+    let none = [1e307, -1e307, 0.0, 0.0, 1.0, 0.0, 0.0, 0.0, 1.0];
+    let no_s = [1.0, 0.0, 0.0, 0.0, 1.0, 0.0, 1e307, -1e307, 1.0];
+    for (fit, beyond) in [(far, 0), (none, 0), (no_s, 3)] {
+        let answer = beyond_told(options(2.0, 10, 0, false), Some(fit), None);
+        assert_eq!(answer.2, beyond, "{fit:?}");
+    }
+}
+
+/// Refused calls tell of none beyond, though the fit has five.
+#[test]
+fn none_beyond_where_it_is_refused() {
+    let state = open(options(2.0, 10, 0, false));
+    let (good, mut bad) = (fit(BEHIND), fit(BEHIND));
+    bad[0] = 2;
+    let refused = |mut state: State, record: &[u8], marks: &[f64], stops: &[u32]| {
+        let answer = state.trial(&Call {
+            record,
+            marks,
+            stops,
+        });
+        assert_eq!(answer.beyond, 0);
+        answer.number()
+    };
+    assert_eq!(refused(state, &bad, &SQUARE, &STOPS), 1);
+    assert_eq!(refused(state, &good, &SQUARE[..16], &STOPS[..5]), 5);
+    let mut marks = SQUARE;
+    marks[0] = 2e9;
+    assert_eq!(refused(state, &good, &marks, &STOPS), 6);
+    assert_eq!(refused(state, &good, &SQUARE, &STOPS[..5]), 8);
+    let mut three = state;
+    three.n = 3;
+    assert_eq!(refused(three, &good, &SQUARE[..12], &STOPS), 7);
+    let mut ended = state;
+    ended.book.bound = 0;
+    assert_eq!(refused(ended, &good, &SQUARE, &STOPS), 10);
+    ended = state;
+    ended.book.few = 1;
+    assert_eq!(refused(ended, &good, &SQUARE, &STOPS), 10);
 }
 
 #[test]
@@ -269,11 +355,15 @@ fn hand_made_states() {
     // A threshold of +inf takes infinite distances in, and a NaN none.
     let mut all = fresh;
     all.options.thresh = f64::INFINITY;
-    let expected = (4, 5, f64::INFINITY);
-    assert_eq!(told(try_one(&mut all, &fit(BEHIND))), expected);
+    let answer = try_one(&mut all, &fit(BEHIND));
+    assert_eq!(told(answer), (4, 5, f64::INFINITY));
+    assert_eq!(answer.beyond, 5);
     assert_eq!(all.winner_indices(&SQUARE, 5), Ok(vec![0, 1, 2, 3, 4]));
     all.options.thresh = f64::NAN;
-    assert_eq!(told(try_one(&mut all, &fit(I))), (2, 0, 0.0));
+    for (model, beyond) in [(I, 0), (BEHIND, 5)] {
+        let answer = try_one(&mut all, &fit(model));
+        assert_eq!((told(answer), answer.beyond), ((2, 0, 0.0), beyond));
+    }
     assert_eq!(all.winner_indices(&SQUARE, 5), Ok(vec![]));
 }
 

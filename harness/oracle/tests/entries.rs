@@ -8,7 +8,7 @@ use oracle::sheet_cases::{
     DIFFERING, HYPOT_NO, HYPOT_YES, IDENTITY, LINE, SQUARE, both, few_marks, mark_traps, pair,
     refused_traps,
 };
-use oracle::{dlt_rows, normalize_points_2d, points_are_collinear};
+use oracle::{Measure, dlt_rows, normalize_points_2d, points_are_collinear};
 
 /// What a lent list holds before a call.
 const BEFORE: f64 = 7.0;
@@ -198,7 +198,7 @@ fn rows_refused_in_order() {
 #[test]
 fn distances() {
     let mark = [50.0, 50.0, 50.0, 53.0];
-    assert_eq!(distance(&IDENTITY, &mark), Ok(3.0));
+    assert_eq!(distance(&IDENTITY, &mark), Ok(Measure::Distance(3.0)));
     for place in 0..9 {
         for bad in [f64::NAN, f64::INFINITY, f64::NEG_INFINITY] {
             let mut h = IDENTITY;
@@ -219,5 +219,12 @@ fn distances() {
     // A model of any size is taken, and a NaN is an answer.
     let mut h = IDENTITY;
     (h[0], h[6]) = (1e300, 1e300);
-    assert!(distance(&h, &[1e9, 0.0, 3.0, 4.0]).is_ok_and(f64::is_nan));
+    let answer = distance(&h, &[1e9, 0.0, 3.0, 4.0]);
+    assert!(matches!(answer, Ok(Measure::Distance(d)) if d.is_nan()));
+    // Refused before it is beyond.
+    h[6] = -1.0;
+    assert_eq!(distance(&h, &mark), Ok(Measure::Beyond));
+    assert_eq!(distance(&h, &[50.0, 50.0, 50.0, 2e9]), Err(6));
+    h[0] = f64::NAN;
+    assert_eq!(distance(&h, &mark), Err(1));
 }

@@ -2,7 +2,10 @@
 
 use oracle::entries::collinear_by_the_paper;
 use oracle::sheet_cases::{HYPOT_NO, HYPOT_YES, SQUARE};
-use oracle::{Mark, Point, distance, dlt_rows, normalize_points_2d, points_are_collinear};
+use oracle::{
+    Mark, Measure, Model, Point, beyond, distance, dlt_rows, measure, normalize_points_2d,
+    points_are_collinear,
+};
 
 fn marks(sheet: &[Point], pixel: &[Point]) -> Vec<Mark> {
     let pairs = sheet.iter().zip(pixel);
@@ -95,17 +98,58 @@ fn rows_refused() {
     assert!(dlt_rows(&marks(&SQUARE[..3], &SQUARE[..3])).is_err());
 }
 
+const IDENTITY: Model = [1.0, 0.0, 0.0, 0.0, 1.0, 0.0, 0.0, 0.0, 1.0];
+const MARK: Mark = [50.0, 50.0, 50.0, 53.0];
+
+/// The identity with another last row.
+fn last_row(row: [f64; 3]) -> Model {
+    let mut h = IDENTITY;
+    h[6..].copy_from_slice(&row);
+    h
+}
+
 #[test]
 fn distances() {
-    let identity = [1.0, 0.0, 0.0, 0.0, 1.0, 0.0, 0.0, 0.0, 1.0];
-    assert_eq!(distance(&identity, &[50.0, 50.0, 50.0, 53.0]), 3.0);
-    let mut behind = identity;
-    behind[8] = -1.0;
-    assert_eq!(distance(&behind, &[50.0, 50.0, 50.0, 53.0]), f64::INFINITY);
+    assert_eq!(distance(&IDENTITY, &MARK), 3.0);
+    assert_eq!(distance(&last_row([0.0, 0.0, -1.0]), &MARK), f64::INFINITY);
     // s overflows to infinity: a finite distance. s is a NaN: an infinite one.
-    let mut far = identity;
-    far[6] = 1e300;
+    let far = last_row([1e300, 0.0, 1.0]);
     assert_eq!(distance(&far, &[1e9, 0.0, 3.0, 4.0]), 5.0);
-    far[7] = -1e300;
+    let far = last_row([1e300, -1e300, 1.0]);
     assert_eq!(distance(&far, &[1e9, 1e9, 3.0, 4.0]), f64::INFINITY);
+}
+
+/// Beyond by s alone: below 0, 0 of either sign, -inf and a NaN.
+#[test]
+fn beyond_the_horizon() {
+    let (large, far) = (1e300, [1e9, 1e9, 3.0, 4.0]);
+    for (row, mark, is_beyond) in [
+        ([0.0, 0.0, -1.0], MARK, true),
+        ([0.0, 0.0, 0.0], MARK, true),
+        ([-0.0, -0.0, -0.0], MARK, true),
+        ([0.0, 0.0, -5e-324], MARK, true),
+        ([0.0, 0.0, 5e-324], MARK, false),
+        // The horizon runs through the mark.
+        ([1.0, 0.0, -50.0], MARK, true),
+        ([1.0, 0.0, -49.0], MARK, false),
+        ([-large, 0.0, 1.0], far, true),
+        ([large, 0.0, 1.0], far, false),
+        ([large, -large, 1.0], far, true),
+    ] {
+        let h = last_row(row);
+        assert_eq!(beyond(&h, &mark), is_beyond, "{row:?}");
+        assert_eq!(measure(&h, &mark) == Measure::Beyond, is_beyond);
+    }
+}
+
+/// A number that is infinite or a NaN isn't beyond.
+#[test]
+fn far_and_not_beyond() {
+    let mut h = IDENTITY;
+    h[2] = 1e200;
+    assert_eq!(measure(&h, &MARK), Measure::Distance(f64::INFINITY));
+    (h[0], h[1]) = (1e300, -1e300);
+    let answer = measure(&h, &[1e9, 1e9, 3.0, 4.0]);
+    assert!(matches!(answer, Measure::Distance(d) if d.is_nan()));
+    assert!(!beyond(&h, &[1e9, 1e9, 3.0, 4.0]));
 }

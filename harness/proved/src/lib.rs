@@ -62,8 +62,9 @@ mod c {
         };
     }
     of_a_model! {
-        probe_distance_refusal(u: f64, v: f64) -> u32;
+        probe_distance_told(u: f64, v: f64) -> u32;
         probe_distance(u: f64, v: f64) -> f64;
+        probe_residual_told(u: f64, v: f64) -> u32;
         probe_residual(u: f64, v: f64) -> f64;
         probe_projection(place: u32) -> f64;
     }
@@ -167,17 +168,26 @@ pub fn dlt_rows(marks: &[f64], rows: &mut [f64]) -> u32 {
     unsafe { c::probe_dlt_rows(marks.as_ptr(), marks.len(), rows.as_mut_ptr(), rows.len()) }
 }
 
-/// 0, 1 for the model or 6 for the mark.
-pub fn distance_refusal(h: &[f64; 9], &[x, y, u, v]: &[f64; 4]) -> u32 {
-    with_model!(probe_distance_refusal, h, x, y, u, v)
+/// What is told of a mark that is beyond.
+pub const BEYOND: u32 = 256;
+
+/// 0 where there is a distance, [`BEYOND`], or the refusal: 1 for the model or
+/// 6 for the mark.
+pub fn distance_told(h: &[f64; 9], &[x, y, u, v]: &[f64; 4]) -> u32 {
+    with_model!(probe_distance_told, h, x, y, u, v)
 }
 
-/// The distance; a NaN where it is refused.
+/// The distance; a NaN where there is none.
 pub fn distance(h: &[f64; 9], &[x, y, u, v]: &[f64; 4]) -> f64 {
     with_model!(probe_distance, h, x, y, u, v)
 }
 
-/// The distance of any numbers: nothing is refused.
+/// 0 or [`BEYOND`], for any numbers: nothing is refused.
+pub fn residual_told(h: &[f64; 9], &[x, y, u, v]: &[f64; 4]) -> u32 {
+    with_model!(probe_residual_told, h, x, y, u, v)
+}
+
+/// The distance of any numbers; a NaN where the mark is beyond.
 pub fn residual(h: &[f64; 9], &[x, y, u, v]: &[f64; 4]) -> f64 {
     with_model!(probe_residual, h, x, y, u, v)
 }

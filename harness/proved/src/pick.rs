@@ -170,8 +170,9 @@ pub fn new_options(thresh: f64, state: &mut [u64]) -> u32 {
     unsafe { c::probe_new_options(thresh, lent(state), state.len()) }
 }
 
-/// A trial: the new state's words, then which outcome, the refusal's number or
-/// the count, and the rms's bits.
+/// A trial, in 28 words: the new state's, then which outcome, the refusal's
+/// number or the count, the rms's bits, and how many marks are beyond under the
+/// fit.
 pub fn trial(state: &[u64], record: &[u8], marks: &[f64], stops: &[u32], out: &mut [u64]) -> u32 {
     // SAFETY: as above.
     unsafe {
