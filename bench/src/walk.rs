@@ -42,7 +42,7 @@ fn candidates(case: &Case, every: usize) -> Vec<(Model, Vec<f64>)> {
     let mut list = Vec::new();
     for h in fits.skip(1).step_by(every).take(50) {
         let mut squares = vec![0.0; MARKS];
-        squared_residuals(&h, &case.marks, &mut squares);
+        squared_residuals(&h, &case.marks, &mut squares, false);
         list.push((h, squares));
     }
     list
@@ -106,12 +106,16 @@ pub fn run() {
     let (mut inliers, mut residuals) = (Vec::new(), Vec::new());
 
     println!("ns a mark and model, {MARKS} marks               good     poor");
-    let measuring = lists.each_ref().map(|list| {
-        timed(list, |h, _| {
-            squared_residuals(h, &case.marks, black_box(&mut squares));
+    let [measuring, with_beyond] = [false, true].map(|beyond| {
+        lists.each_ref().map(|list| {
+            timed(list, |h, _| {
+                let squares = black_box(&mut squares);
+                black_box(squared_residuals(h, &case.marks, squares, beyond));
+            })
         })
     });
     row("measuring", measuring);
+    row("measuring, those beyond counted", with_beyond);
     let counting = lists.each_ref().map(|list| {
         timed(list, |_, squares| {
             black_box(count_inliers(THRESH, squares));

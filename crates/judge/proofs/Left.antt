@@ -15,6 +15,7 @@ use Rattle.rule.proofs.Tests.{clash}
 use Rattle.rule.proofs.Order.{done}
 use Rattle.rule.proofs.Lists.{count-most, filled-not, filled-length, filled-front, filled-again}
 use Rattle.root.specs.Root.{rootOf}
+use Rattle.numbers.specs.Measure.{ifCounted}
 use Rattle.sheet.specs.Marks.{marksOf}
 use Rattle.sheet.specs.Distance.{beyondUnder}
 use Rattle.sheet.specs.declared.model.Model.{Model}
@@ -52,13 +53,14 @@ measured-roots l h entry {n} {s} e room is =
     rw (e ∙ sym long, is, filled-front (squaresOf l h) entry (rw long room)) (roots-of-squares l h)
 
 -- how many are found beyond, and that these are few
-pub found-beyond : (l : List Float) (h : Model) (entry : List Float) {far : ℕ} → length (marksOf l) ≤ length entry → far ≡ beyondFound l h entry → far ≡ beyondOf l h
+pub found-beyond : (counting : Bool) (l : List Float) (h : Model) (entry : List Float) {far : ℕ} → length (marksOf l) ≤ length entry → far ≡ beyondFound counting l h entry → far ≡ ifCounted counting (beyondOf l h)
 unfolding beyondFound
-found-beyond l h entry room e = e ∙ rw (le-ltb (length entry) (length (marksOf l)) room)
+found-beyond counting l h entry room e = e ∙ rw (le-ltb (length entry) (length (marksOf l)) room)
 
-pub beyond-small : (l : List Float) (h : Model) {far : ℕ} → length l ≤ 8000 → far ≡ beyondOf l h → far ≤ 2000
-unfolding beyondOf
-beyond-small l h short e = let k = count l in let m = count-most (beyondUnder h) (marksOf l) in omega (arith, k, m, short, e)
+pub beyond-small : (counting : Bool) (l : List Float) (h : Model) {far : ℕ} → length l ≤ 8000 → far ≡ ifCounted counting (beyondOf l h) → far ≤ 2000
+unfolding beyondOf ifCounted
+beyond-small true l h short e = let k = count l in let m = count-most (beyondUnder h) (marksOf l) in omega (arith, k, m, short, e)
+beyond-small false l h short e = omega (arith, e)
 
 -- nothing is measured or written where there are over 2,000 marks
 pub over-many : (l : List Float) (h : Model) (thresh : Float) (squares : List Float) (indices : List ℕ) {n : ℕ} → n ≡ length (marksOf l) → 2000 ≤ length squares → length squares < n

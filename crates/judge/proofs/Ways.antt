@@ -1,6 +1,6 @@
 -- The judge's ways out, one law for each: the tests in their order, and what a record is worth. Assumes nothing.
 use mathlib.Core.Path.{_≡_, refl, sym, ap, _∙_}
-use mathlib.Core.Bool.{true, false, not}
+use mathlib.Core.Bool.{Bool, true, false, not, cond}
 use mathlib.Core.List.{List, [], _∷_}
 use Prim.Native.Nat.{ℕ, suc, _+_, _%_, _≤_, _<_}
 use native.Mathlib.Numerals.{add-one}
@@ -16,6 +16,7 @@ use Rattle.rule.specs.Order.{Test, firstFailed, ifPassed}
 use Rattle.rule.proofs.Tests.{neither}
 use Rattle.rule.proofs.Order.{numbered, first-passed, one-failed, all-passed, kept, done, decided-gives, decided-refused}
 use Rattle.rule.proofs.Lists.{past-end}
+use Rattle.numbers.specs.Measure.{ifCounted}
 use Rattle.sheet.specs.Marks.{marksOf, shape, few}
 use Rattle.sheet.specs.declared.model.Model.{Model}
 use Rattle.sheet.proofs.Places.{count}
@@ -136,12 +137,12 @@ module _ (o : RansacOptions) (l : List Float) (stops : List ℕ) where
   stands-unasked r fit refit w = rw w
 
   -- What a trial comes to, how many marks are beyond under its fit, and the list that it leaves. `s` is that list.
-  abbrev Came : Finding → ℕ → List Float → Trial Model → List Float → Type 0
-  Came r far s t entry =
-      (viewFinding (rmsUnder o l) r ≡ judgeTrial (ruleOf o) ds stops t) × ((far ≡ beyondFit (beyondOf l) t) × (s ≡ squaresAfter o l stops t entry))
+  abbrev Came : Bool → Finding → ℕ → List Float → Trial Model → List Float → Type 0
+  Came counting r far s t entry =
+      (viewFinding (rmsUnder o l) r ≡ judgeTrial (ruleOf o) ds stops t) × ((far ≡ ifCounted counting (beyondFit (beyondOf l) t)) × (s ≡ squaresAfter o l stops t entry))
 
-  module _ (entry : List Float) where
-    module _ (fit : Model) {k far : ℕ} (is : k ≡ countUnder (ruleOf o) ds stops fit) (beyond : far ≡ beyondOf l fit) where
+  module _ (counting : Bool) (entry : List Float) where
+    module _ (fit : Model) {k far : ℕ} (is : k ≡ countUnder (ruleOf o) ds stops fit) (beyond : far ≡ ifCounted counting (beyondOf l fit)) where
       few-judged : (stands : Model) → k < o .«min_inliers» → viewFinding (rmsUnder o l) (Few k) ≡ judgedBy (ruleOf o) ds stops fit stands
       unfolding viewFinding judgedBy ruleOf
       few-judged stands h = rw (← is, lt-ltb k (o .«min_inliers») h)
@@ -150,45 +151,45 @@ module _ (o : RansacOptions) (l : List Float) (stops : List ℕ) where
       unfolding judgedBy ruleOf
       enough-judged stands h = rw (← is, le-ltb k (o .«min_inliers») h)
 
-      pub fit-few : k < o .«min_inliers» → {s : List Float} → s ≡ filled (squaresOf l fit) entry → Came (Few k) far s (fitted fit) entry
+      pub fit-few : k < o .«min_inliers» → {s : List Float} → s ≡ filled (squaresOf l fit) entry → Came counting (Few k) far s (fitted fit) entry
       unfolding judgeTrial squaresAfter beyondFit
       fit-few h e = (few-judged fit h, (beyond, e))
 
-      pub fit-scored : o .«min_inliers» ≤ k → {s : List Float} → s ≡ filled (squaresOf l fit) entry → (r : Finding) → viewFinding (rmsUnder o l) r ≡ scored (standing (ruleOf o) ds stops fit) → Came r far s (fitted fit) entry
+      pub fit-scored : o .«min_inliers» ≤ k → {s : List Float} → s ≡ filled (squaresOf l fit) entry → (r : Finding) → viewFinding (rmsUnder o l) r ≡ scored (standing (ruleOf o) ds stops fit) → Came counting r far s (fitted fit) entry
       unfolding judgeTrial squaresAfter beyondFit
       fit-scored h e r v = (v ∙ enough-judged fit h, (beyond, e))
 
       module _ (refit : Model) where
-        pub pair-few : k < o .«min_inliers» → {s : List Float} → s ≡ filled (squaresOf l fit) entry → Came (Few k) far s (refitted fit refit) entry
+        pub pair-few : k < o .«min_inliers» → {s : List Float} → s ≡ filled (squaresOf l fit) entry → Came counting (Few k) far s (refitted fit refit) entry
         unfolding judgeTrial squaresAfter beyondFit
         pair-few h e = (few-judged (standsOf (ruleOf o) ds stops fit refit) h, (beyond, e ∙ rw (← is, lt-ltb k (o .«min_inliers») h)))
 
         -- scored, by the one that stands
         module _ (enough : o .«min_inliers» ≤ k) where
           pair-scored : {m : Model} → m ≡ standsOf (ruleOf o) ds stops fit refit → {s : List Float} → s ≡ filled (squaresOf l m) entry → (r : Finding)
-              → viewFinding (rmsUnder o l) r ≡ scored (standing (ruleOf o) ds stops m) → Came r far s (refitted fit refit) entry
+              → viewFinding (rmsUnder o l) r ≡ scored (standing (ruleOf o) ds stops m) → Came counting r far s (refitted fit refit) entry
           unfolding judgeTrial squaresAfter beyondFit
           pair-scored {m} w e r v =
               (v ∙ enough-judged m enough ∙ ap (judgedBy (ruleOf o) ds stops fit) w, (beyond, e ∙ ap (λ x. filled (squaresOf l x) entry) w ∙ rw (← is, le-ltb k (o .«min_inliers») enough)))
 
           pub refit-scored : {again : ℕ} → again ≡ countUnder (ruleOf o) ds stops refit → o .refit ≡ true → o .«min_inliers» ≤ again → {s : List Float} → s ≡ filled (squaresOf l refit) entry → (r : Finding)
-              → viewFinding (rmsUnder o l) r ≡ scored (standing (ruleOf o) ds stops refit) → Came r far s (refitted fit refit) entry
+              → viewFinding (rmsUnder o l) r ≡ scored (standing (ruleOf o) ds stops refit) → Came counting r far s (refitted fit refit) entry
           unfolding ruleOf
           refit-scored e w h = pair-scored (stands-refit (ruleOf o) fit refit e w h)
 
           pub refit-low : {again : ℕ} → again ≡ countUnder (ruleOf o) ds stops refit → o .refit ≡ true → again < o .«min_inliers» → {s : List Float} → s ≡ filled (squaresOf l fit) entry → (r : Finding)
-              → viewFinding (rmsUnder o l) r ≡ scored (standing (ruleOf o) ds stops fit) → Came r far s (refitted fit refit) entry
+              → viewFinding (rmsUnder o l) r ≡ scored (standing (ruleOf o) ds stops fit) → Came counting r far s (refitted fit refit) entry
           unfolding ruleOf
           refit-low e w h = pair-scored (stands-fit (ruleOf o) fit refit e w h)
 
           pub refit-unasked : o .refit ≡ false → {s : List Float} → s ≡ filled (squaresOf l fit) entry → (r : Finding)
-              → viewFinding (rmsUnder o l) r ≡ scored (standing (ruleOf o) ds stops fit) → Came r far s (refitted fit refit) entry
+              → viewFinding (rmsUnder o l) r ≡ scored (standing (ruleOf o) ds stops fit) → Came counting r far s (refitted fit refit) entry
           unfolding ruleOf
           refit-unasked w = pair-scored (stands-unasked (ruleOf o) fit refit w)
 
 -- ---- the judge
 
-module _ (o : RansacOptions) (n : ℕ) (c : Call) {k : ℕ} (first : k ≡ firstFailed (testedMarks n (c .marks) (c .stops))) where
+module _ (counting : Bool) (o : RansacOptions) (n : ℕ) (c : Call) {k : ℕ} (first : k ≡ firstFailed (testedMarks n (c .marks) (c .stops))) where
   abbrev tests : List Test
   tests = testedMarks n (c .marks) (c .stops)
 
@@ -201,7 +202,15 @@ module _ (o : RansacOptions) (n : ℕ) (c : Call) {k : ℕ} (first : k ≡ first
 
   -- what the judge finds, the number beyond, and the list that it leaves
   abbrev Finds : Finding → ℕ → List Float → List Float → Type 0
-  Finds r far s entry = (viewFinding (rmsUnder o (c .marks)) r ≡ judgeTested o n c) × ((far ≡ beyondBy (testedTests n c) c) × (s ≡ squaresLeft o n c entry))
+  Finds r far s entry = (viewFinding (rmsUnder o (c .marks)) r ≡ judgeTested o n c) × ((far ≡ ifCounted counting (beyondBy (testedTests n c) c)) × (s ≡ squaresLeft o n c entry))
+
+  none-counted : 0 ≡ ifCounted counting 0
+  unfolding ifCounted
+  none-counted = go counting
+    where
+      go : (b : Bool) → _≡_ {A = ℕ} 0 (cond b 0 0)
+      go true = refl
+      go false = refl
 
   turned : {j : ℕ} (entry : List Float) → j ≡ firstFailed (testedTests n c) → (j ≡ 0 → ⊥) → Finds (Refused j) 0 entry entry
   unfolding viewFinding judgeTested byTests beyondBy squaresLeft
@@ -209,7 +218,7 @@ module _ (o : RansacOptions) (n : ℕ) (c : Call) {k : ℕ} (first : k ≡ first
       let k = firstFailed (testedTests n c) in
       let some : k ≡ 0 → ⊥ = λ z. h (e ∙ z) in (
         ap turned-down e ∙ kept k (worth o c) (turned-down k) some,
-        (kept k (beyondFit (beyondOf (c .marks)) (trialOf (c .bytes))) 0 some, kept k (squaresAfter o (c .marks) (c .stops) (trialOf (c .bytes)) entry) entry some),
+        (none-counted ∙ ap (ifCounted counting) (kept k (beyondFit (beyondOf (c .marks)) (trialOf (c .bytes))) 0 some), kept k (squaresAfter o (c .marks) (c .stops) (trialOf (c .bytes)) entry) entry some),
       )
 
   pub call-refused : (entry : List Float) → (k ≡ 0 → ⊥) → Finds (Refused k) 0 entry entry
@@ -225,14 +234,14 @@ module _ (o : RansacOptions) (n : ℕ) (c : Call) {k : ℕ} (first : k ≡ first
     unfolding trialAnswer
     record-refused h = let d = decided-refused (firstFailed (trialRecord (c .bytes) ∷ [])) _ h in turned entry (d .0 ∙ rest) (λ z. d .1 (sym (d .0) ∙ z))
 
-    record-judged : {t : Trial Model} → gives t ≡ trialAnswer (c .bytes) → (r : Finding) (far : ℕ) (s : List Float) → Came o (c .marks) (c .stops) r far s t entry → Finds r far s entry
+    record-judged : {t : Trial Model} → gives t ≡ trialAnswer (c .bytes) → (r : Finding) (far : ℕ) (s : List Float) → Came o (c .marks) (c .stops) counting r far s t entry → Finds r far s entry
     unfolding trialAnswer judgeTested byTests worth beyondBy squaresLeft
     record-judged {t} h r far s came =
         let d = decided-gives (firstFailed (trialRecord (c .bytes) ∷ [])) h in
         let none = sym (d .0) ∙ rest in (
           came .0 ∙ ap (judgeTrial (ruleOf o) (distancesOf (c .marks)) (c .stops)) (d .1) ∙ done (worth o c) (turned-down (firstFailed (testedTests n c))) none,
           (
-            came .1 .0 ∙ ap (beyondFit (beyondOf (c .marks))) (d .1) ∙ done (beyondFit (beyondOf (c .marks)) (trialOf (c .bytes))) 0 none,
+            came .1 .0 ∙ ap (ifCounted counting) (ap (beyondFit (beyondOf (c .marks))) (d .1) ∙ done (beyondFit (beyondOf (c .marks)) (trialOf (c .bytes))) 0 none),
             came .1 .1 ∙ ap (λ x. squaresAfter o (c .marks) (c .stops) x entry) (d .1) ∙ done (squaresAfter o (c .marks) (c .stops) (trialOf (c .bytes)) entry) entry none,
           ),
         )
@@ -245,13 +254,13 @@ module _ (o : RansacOptions) (n : ℕ) (c : Call) {k : ℕ} (first : k ≡ first
 
       pub case-empty : q ≡ Recorded.Empty → Finds Empty 0 entry entry
       unfolding viewRecorded viewFinding judgeTrial squaresAfter beyondFit
-      case-empty e = record-judged (ap viewRecorded (sym e) ∙ read) Empty 0 entry (refl, (refl, refl))
+      case-empty e = record-judged (ap viewRecorded (sym e) ∙ read) Empty 0 entry (refl, (none-counted, refl))
 
-      pub case-fit : {m : Model} → q ≡ Recorded.Fit m → (r : Finding) (far : ℕ) (s : List Float) → Came o (c .marks) (c .stops) r far s (fitted m) entry → Finds r far s entry
+      pub case-fit : {m : Model} → q ≡ Recorded.Fit m → (r : Finding) (far : ℕ) (s : List Float) → Came o (c .marks) (c .stops) counting r far s (fitted m) entry → Finds r far s entry
       unfolding viewRecorded
       case-fit e = record-judged (ap viewRecorded (sym e) ∙ read)
 
-      pub case-refit : {p : Refitted} → q ≡ Recorded.Refit p → (r : Finding) (far : ℕ) (s : List Float) → Came o (c .marks) (c .stops) r far s (refitted (p .fit) (p .refit)) entry → Finds r far s entry
+      pub case-refit : {p : Refitted} → q ≡ Recorded.Refit p → (r : Finding) (far : ℕ) (s : List Float) → Came o (c .marks) (c .stops) counting r far s (refitted (p .fit) (p .refit)) entry → Finds r far s entry
       unfolding viewRecorded
       case-refit e = record-judged (ap viewRecorded (sym e) ∙ read)
 

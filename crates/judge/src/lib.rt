@@ -10,6 +10,7 @@ ghost use Prim.Native.Nat.{_≤_};
 ghost use lib.ListN.{length};
 ghost use Rattle.rule.specs.Lists.{filled};
 ghost use Rattle.rule.specs.Order.{firstFailed};
+ghost use Rattle.numbers.specs.Measure.{ifCounted};
 ghost use Rattle.book.specs.Score.{scored, countIn, countUnder, stopAt, standing, judgeTrial, beyondFit, fitted, refitted};
 ghost use Rattle.measure.specs.Distances.{distancesOf, beyondOf, squaresOf};
 ghost use Rattle.score.specs.Places.{indexCount, indexed};
@@ -51,7 +52,7 @@ pub enum Finding {
     Scored(Support),
 }
 
-// What `count_support` answers.
+// What `count_support` answers: the finding, and how many marks are beyond under the fit.
 pub struct Found {
     pub finding: Finding,
     pub beyond: u32,
@@ -96,15 +97,16 @@ fn stop_at(o: RansacOptions, marks: &[f64], stops: &[u32], count: usize) -> u32
     if count < stops.len() { stops[count] } else { 0 }
 }
 
-// Measures a model, and counts the marks that are within the threshold under it and those beyond.
-fn count_under(h: Model, thresh: f64, marks: &[f64], squares: &mut [f64]) -> Counted
+// Measures a model, and counts the marks that are within the threshold under it and, if they are to be
+// counted, those beyond.
+fn count_under(h: Model, thresh: f64, marks: &[f64], squares: &mut [f64], counting: bool) -> Counted
     requires { ⌜ length (now marks) ≤ 8000 ⌝ }
     requires { ⌜ 2000 ≤ length (now squares) ⌝ }
     ensures { λ r. ⌜ r .within ≡ countIn thresh (distancesOf (now (marks .entry)) h) ⌝ }
-    ensures { λ r. ⌜ r .beyond ≡ beyondOf (now (marks .entry)) h ⌝ }
+    ensures { λ r. ⌜ r .beyond ≡ ifCounted counting (beyondOf (now (marks .entry)) h) ⌝ }
     ensures { λ _. ⌜ now (squares .exit) ≡ filled (squaresOf (now (marks .entry)) h) (now (squares .entry)) ⌝ }
 {
-    let beyond = measure::squared_residuals(h, marks, squares);
+    let beyond = measure::squared_residuals(h, marks, squares, counting);
     let n = sheet::mark_count(marks);
     let within = score::count_inliers(thresh, &squares[..n]);
     Counted {
@@ -139,13 +141,14 @@ fn count_fit(
     marks: &[f64],
     stops: &[u32],
     squares: &mut [f64; 2000],
+    counting: bool,
 ) -> Found
     requires { ⌜ length (now marks) ≤ 8000 ⌝ }
     ensures { λ r. ⌜ viewFinding (rmsUnder o (now (marks .entry))) (r .finding) ≡ judgeTrial (ruleOf o) (distancesOf (now (marks .entry))) (now (stops .entry)) (fitted fit) ⌝ }
-    ensures { λ r. ⌜ r .beyond ≡ beyondFit (beyondOf (now (marks .entry))) (fitted fit) ⌝ }
+    ensures { λ r. ⌜ r .beyond ≡ ifCounted counting (beyondFit (beyondOf (now (marks .entry))) (fitted fit)) ⌝ }
     ensures { λ _. ⌜ now (squares .exit) ≡ squaresAfter o (now (marks .entry)) (now (stops .entry)) (fitted fit) (now (squares .entry)) ⌝ }
 {
-    let c = count_under(fit, o.thresh, marks, squares);
+    let c = count_under(fit, o.thresh, marks, squares, counting);
     let beyond = c.beyond;
     if c.within < o.min_inliers as usize {
         return Found {
@@ -168,15 +171,16 @@ fn count_refit(
     marks: &[f64],
     stops: &[u32],
     squares: &mut [f64; 2000],
+    counting: bool,
 ) -> Found
     requires { ⌜ length (now marks) ≤ 8000 ⌝ }
     ensures { λ r. ⌜ viewFinding (rmsUnder o (now (marks .entry))) (r .finding) ≡ judgeTrial (ruleOf o) (distancesOf (now (marks .entry))) (now (stops .entry)) (refitted (pair .fit) (pair .refit)) ⌝ }
-    ensures { λ r. ⌜ r .beyond ≡ beyondFit (beyondOf (now (marks .entry))) (refitted (pair .fit) (pair .refit)) ⌝ }
+    ensures { λ r. ⌜ r .beyond ≡ ifCounted counting (beyondFit (beyondOf (now (marks .entry))) (refitted (pair .fit) (pair .refit))) ⌝ }
     ensures { λ _. ⌜ now (squares .exit) ≡ squaresAfter o (now (marks .entry)) (now (stops .entry)) (refitted (pair .fit) (pair .refit)) (now (squares .entry)) ⌝ }
 {
     let least = o.min_inliers as usize;
     let fit = pair.fit;
-    let c = count_under(fit, o.thresh, marks, squares);
+    let c = count_under(fit, o.thresh, marks, squares, counting);
     let beyond = c.beyond;
     if c.within < least {
         return Found {
@@ -191,9 +195,9 @@ fn count_refit(
         };
     }
     let refit = pair.refit;
-    let again = count_under(refit, o.thresh, marks, squares);
+    let again = count_under(refit, o.thresh, marks, squares, false);
     if again.within < least {
-        measure::squared_residuals(fit, marks, squares);
+        measure::squared_residuals(fit, marks, squares, false);
         return Found {
             finding: supported_by(o, fit, c.within, marks, stops),
             beyond,
@@ -206,8 +210,8 @@ fn count_refit(
 }
 
 // Judges a trial of a run of `n` marks but for the root mean square, and leaves the squares of the
-// model that stands at the front of `squares`. The numbers of the marks are not tested: whoever calls
-// has done it, once for a run.
+// model that stands at the front of `squares`. The marks beyond are counted if `counting` says so, else
+// their number is 0. The numbers of the marks are not tested: whoever calls has done it, once for a run.
 pub fn count_support(
     o: RansacOptions,
     n: usize,
@@ -215,9 +219,10 @@ pub fn count_support(
     marks: &[f64],
     stops: &[u32],
     squares: &mut [f64; 2000],
+    counting: bool,
 ) -> Found
     ensures { λ r. ⌜ viewFinding (rmsUnder o (now (marks .entry))) (r .finding) ≡ judgeTested o n (record { bytes = now (bytes .entry); marks = now (marks .entry); stops = now (stops .entry) }) ⌝ }
-    ensures { λ r. ⌜ r .beyond ≡ beyondBy (testedTests n (record { bytes = now (bytes .entry); marks = now (marks .entry); stops = now (stops .entry) })) (record { bytes = now (bytes .entry); marks = now (marks .entry); stops = now (stops .entry) }) ⌝ }
+    ensures { λ r. ⌜ r .beyond ≡ ifCounted counting (beyondBy (testedTests n (record { bytes = now (bytes .entry); marks = now (marks .entry); stops = now (stops .entry) })) (record { bytes = now (bytes .entry); marks = now (marks .entry); stops = now (stops .entry) })) ⌝ }
     ensures { λ _. ⌜ now (squares .exit) ≡ squaresLeft o n (record { bytes = now (bytes .entry); marks = now (marks .entry); stops = now (stops .entry) }) (now (squares .entry)) ⌝ }
 {
     let refusal = check_call(n, marks, stops);
@@ -236,8 +241,8 @@ pub fn count_support(
             finding: Finding::Empty,
             beyond: 0,
         },
-        Recorded::Fit(fit) => count_fit(o, fit, marks, stops, squares),
-        Recorded::Refit(pair) => count_refit(o, pair, marks, stops, squares),
+        Recorded::Fit(fit) => count_fit(o, fit, marks, stops, squares, counting),
+        Recorded::Refit(pair) => count_refit(o, pair, marks, stops, squares, counting),
     }
 }
 
@@ -261,7 +266,7 @@ pub fn judge(o: RansacOptions, n: usize, bytes: &[u8], marks: &[f64], stops: &[u
     ensures { λ r. ⌜ r .beyond ≡ beyondBy (testedTests n (record { bytes = now (bytes .entry); marks = now (marks .entry); stops = now (stops .entry) })) (record { bytes = now (bytes .entry); marks = now (marks .entry); stops = now (stops .entry) }) ⌝ }
 {
     let mut squares = [0.0; 2000];
-    let found = count_support(o, n, bytes, marks, stops, &mut squares);
+    let found = count_support(o, n, bytes, marks, stops, &mut squares, true);
     let beyond = found.beyond;
     let finding = found.finding;
     match finding {
@@ -302,7 +307,7 @@ fn places_under(
     if squares.len() < n {
         return 0;
     }
-    measure::squared_residuals(h, marks, squares);
+    measure::squared_residuals(h, marks, squares, false);
     score::write_inliers(thresh, &squares[..n], indices)
 }
 

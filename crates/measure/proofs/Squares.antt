@@ -1,18 +1,18 @@
 -- The squares of a list of marks: one for each mark, and the distances are their roots; and the walk that stores them and counts the marks that are beyond.
 -- Assumes nothing.
 use mathlib.Core.Path.{_≡_, refl, sym, ap, _∙_}
-use mathlib.Core.Bool.{Bool, true, false, cond}
+use mathlib.Core.Bool.{Bool, true, false, cond, _&&_}
 use mathlib.Core.List.{List, [], _∷_, map}
 use Prim.Native.Nat.{ℕ, _+_, _≤_, _<_}
 use borrow.Author.Tests.{lt-ltb, le-ltb}
 use lib.ListN.{length, getD, set, length-map, List·getD-map}
 use lib.Ieee.{Float, ofBits, lt}
 use Rattle.rule.specs.Lists.{filled}
-use Rattle.rule.proofs.Lists.{Counted, counted-none, counted-next, counted-all, Stored, stored-none, stored-no-room, stored-same, stored-more, stored-all}
+use Rattle.rule.proofs.Lists.{count-asked, Counted, counted-none, counted-next, counted-past, counted-all, Stored, stored-none, stored-no-room, stored-same, stored-more, stored-all}
 use Rattle.root.specs.Root.{rootOf}
 use Rattle.numbers.specs.Constants.{zero′, infinity}
 use Rattle.sheet.specs.Marks.{marksOf, markAt, noMark, pointOf, squaredApart}
-use Rattle.numbers.specs.Measure.{beyond, distance, asDistance}
+use Rattle.numbers.specs.Measure.{beyond, distance, asDistance, ifCounted}
 use Rattle.sheet.specs.Distance.{projectionOf, measureOf, beyondUnder, distanceOf}
 use Rattle.sheet.specs.declared.marks.Mark.{Mark}
 use Rattle.sheet.specs.declared.marks.Side.the-variants.{Sheet, Pixel}
@@ -38,12 +38,15 @@ module _ (l : List Float) (h : Model) where
   unfolding squaresOf markAt
   square-at i = sym (List·getD-map (squaredOf h) (marksOf l) i noMark)
 
--- ---- the walk over the marks: the squares that are stored up to place i, and how many of those marks are beyond
+-- ---- the walk over the marks: the squares that are stored up to place i, and how many of those marks are counted as beyond
 
-module _ (l : List Float) (h : Model) (entry : List Float) where
-  pub record Measured (i : ℕ) (found : ℕ) (s : List Float) : Type 0 where
+module _ (counting : Bool) (l : List Float) (h : Model) (entry : List Float) where
+  abbrev far : Mark → Bool
+  far m = counting && beyondUnder h m
+
+  pub record Measured (i found : ℕ) (s : List Float) : Type 0 where
     pub stored : Stored (squaresOf l h) entry i s
-    pub counted : Counted (beyondUnder h) (marksOf l) noMark found i
+    pub counted : Counted far (marksOf l) noMark found i
 
   pub measured-none : Measured 0 0 entry
   measured-none = record { stored = stored-none _ _; counted = counted-none _ _ _ }
@@ -52,27 +55,33 @@ module _ (l : List Float) (h : Model) (entry : List Float) where
     many : n ≡ length (squaresOf l h)
     many = count ∙ sym (squares-count l h)
 
-    pub no-room : length entry < n → (0 ≡ beyondFound l h entry) × (entry ≡ filled (squaresOf l h) entry)
-    unfolding beyondFound
-    no-room short = (rw (← count, lt-ltb (length entry) n short), stored-no-room _ _ many short)
+    pub no-room : length entry < n → (0 ≡ beyondFound counting l h entry) × (entry ≡ filled (squaresOf l h) entry)
+    unfolding beyondFound ifCounted
+    no-room short = (rw (← count, lt-ltb (length entry) n short) (go counting), stored-no-room _ _ many short)
+      where
+        go : (b : Bool) → _≡_ {A = ℕ} 0 (cond b 0 0)
+        go true = refl
+        go false = refl
 
     module _ (room : n ≤ length entry) where
       pub measured-same : {i found : ℕ} {s : List Float} → i ≤ n → Measured i found s → length s ≡ length entry
       measured-same g k = stored-same _ _ many room g (k .stored)
 
-      pub measured-next : {i found r : ℕ} {q : Float} {s : List Float} {m : Mark} → i < n → m ≡ markAt l i → q ≡ squaredOf h m → (r ≡ cond (beyondUnder h m) 1 0) × (r ≤ 1)
-          → Measured i found s → Measured (i + 1) (found + r) (set s i q)
-      unfolding markAt
-      measured-next {i} g at square one k =
-          record {
-            stored = stored-more _ _ many room (squaredOf h noMark) g (square ∙ ap (squaredOf h) at ∙ square-at l h i) (k .stored);
-            counted = counted-next (beyondUnder h) (marksOf l) noMark (rw (← count) g) (ap (beyondUnder h) at) one (k .counted);
-          }
+      module _ {i found : ℕ} {q : Float} {s : List Float} {m : Mark} (inside : i < n) (at : m ≡ markAt l i) (square : q ≡ squaredOf h m) (k : Measured i found s) where
+        one-stored : Stored (squaresOf l h) entry (i + 1) (set s i q)
+        one-stored = stored-more _ _ many room (squaredOf h noMark) inside (square ∙ ap (squaredOf h) at ∙ square-at l h i) (k .stored)
 
-      pub measured-all : {i found : ℕ} {s : List Float} → i ≤ n → n ≤ i → Measured i found s → (found ≡ beyondFound l h entry) × (s ≡ filled (squaresOf l h) entry)
-      unfolding beyondFound beyondOf
+        pub measured-next : {r : ℕ} → counting ≡ true → (r ≡ cond (beyondUnder h m) 1 0) × (r ≤ 1) → Measured (i + 1) (found + r) (set s i q)
+        unfolding markAt
+        measured-next e one = record { stored = one-stored; counted = counted-next far (marksOf l) noMark {b = beyondUnder h m} (rw (← count) inside) (rw (e, at)) one (k .counted) }
+
+        pub measured-past : counting ≡ false → Measured (i + 1) found (set s i q)
+        measured-past e = record { stored = one-stored; counted = counted-past far (marksOf l) noMark (rw (← count) inside) (rw e) (k .counted) }
+
+      pub measured-all : {i found : ℕ} {s : List Float} → i ≤ n → n ≤ i → Measured i found s → (found ≡ beyondFound counting l h entry) × (s ≡ filled (squaresOf l h) entry)
+      unfolding beyondFound beyondOf ifCounted
       measured-all {i} g e k =
-          (counted-all _ _ _ (rw (← count) e) (k .counted) ∙ rw (← count, le-ltb (length entry) n room), stored-all _ _ many room g e (k .stored))
+          (counted-all _ _ _ (rw (← count) e) (k .counted) ∙ count-asked counting (beyondUnder h) (marksOf l) ∙ rw (← count, le-ltb (length entry) n room), stored-all _ _ many room g e (k .stored))
 
 -- ---- the distance is the root of its square
 

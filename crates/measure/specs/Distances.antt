@@ -1,6 +1,6 @@
 -- Document 01, 'Trials', and document 02, order 2: the distances of a list of marks under a sheet's model, the squares that they are the roots of, and how many
 -- of the marks are beyond.
-use mathlib.Core.Bool.{cond}
+use mathlib.Core.Bool.{Bool, cond}
 use mathlib.Core.List.{List, map}
 use Prim.Native.Nat.{ℕ}
 use lib.Dec.{ltb}
@@ -8,6 +8,7 @@ use lib.ListN.{length}
 use lib.Ieee.{Float, lt}
 use Rattle.rule.specs.Lists.{countOf}
 use Rattle.numbers.specs.Constants.{zero′, infinity}
+use Rattle.numbers.specs.Measure.{ifCounted}
 use Rattle.sheet.specs.Marks.{marksOf, pointOf, squaredApart}
 use Rattle.sheet.specs.Distance.{projectionOf, beyondUnder, distanceOf}
 use Rattle.sheet.specs.declared.marks.Mark.{Mark}
@@ -29,6 +30,6 @@ squaredOf h m =
 unfoldable pub squaresOf : List Float → Model → List Float
 squaresOf l h = map (squaredOf h) (marksOf l)
 
--- how many are found beyond, with a lent list: none where it has not a place for each mark, since nothing is measured then
-unfoldable pub beyondFound : List Float → Model → (entry : List Float) → ℕ
-beyondFound l h entry = cond (ltb (length entry) (length (marksOf l))) 0 (beyondOf l h)
+-- how many are found beyond: none where they aren't counted, or where the lent list has not a place for each mark, since nothing is measured then
+unfoldable pub beyondFound : (counting : Bool) → List Float → Model → (entry : List Float) → ℕ
+beyondFound counting l h entry = ifCounted counting (cond (ltb (length entry) (length (marksOf l))) 0 (beyondOf l h))

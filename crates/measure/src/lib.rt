@@ -37,9 +37,11 @@ fn squared_residual(h: Model, m: Mark) -> Squared
 }
 
 // Writes the square of each mark's distance to the front of `squares`, and answers how many marks are
-// beyond; if it has not a place for each, it writes nothing and answers 0.
-pub fn squared_residuals(h: Model, marks: &[f64], squares: &mut [f64]) -> usize
-    ensures { λ r. ⌜ r ≡ beyondFound (now (marks .entry)) h (now (squares .entry)) ⌝ }
+// beyond, if they are to be counted; where it has not a place for each mark, it writes nothing and
+// answers 0. The compiler makes a walk that counts and one that doesn't, so who doesn't ask for the
+// number pays nothing for it.
+pub fn squared_residuals(h: Model, marks: &[f64], squares: &mut [f64], counting: bool) -> usize
+    ensures { λ r. ⌜ r ≡ beyondFound counting (now (marks .entry)) h (now (squares .entry)) ⌝ }
     ensures { λ _. ⌜ now (squares .exit) ≡ filled (squaresOf (now (marks .entry)) h) (now (squares .entry)) ⌝ }
 {
     let n = sheet::mark_count(marks);
@@ -51,8 +53,10 @@ pub fn squared_residuals(h: Model, marks: &[f64], squares: &mut [f64]) -> usize
     while i < n {
         let q = squared_residual(h, sheet::mark_at(marks, i));
         squares[i] = q.square;
-        beyond += q.beyond;
         i += 1;
+        if counting {
+            beyond += q.beyond;
+        }
     }
     beyond
 }

@@ -1,5 +1,6 @@
 -- What the measuring of a mark under a model gives, for any family (document 02, order 2): that it is beyond, or its distance.
-use mathlib.Core.Bool.{Bool, true, false}
+use mathlib.Core.Bool.{Bool, true, false, cond}
+use Prim.Native.Nat.{ℕ}
 use lib.Ieee.{Float}
 use Rattle.numbers.specs.Constants.{infinity}
 
@@ -16,3 +17,7 @@ isBeyond (distance d) = false
 unfoldable pub asDistance : Measure → Float
 asDistance beyond = infinity
 asDistance (distance d) = d
+
+-- the number of marks that are beyond, for a caller that may do without: 0 where they aren't counted
+unfoldable pub ifCounted : (counting : Bool) → ℕ → ℕ
+ifCounted counting k = cond counting k 0

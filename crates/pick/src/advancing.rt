@@ -78,7 +78,8 @@ fn after_scored(s: State, t: Support, squares: &[f64]) -> State
 }
 
 // One trial over marks that were tested before, refused as `step` refuses it: the state is the one
-// that `step` gives. The squares of the marks are measured into the list that is lent.
+// that `step` gives. The squares of the marks are measured into the list that is lent, and no marks
+// beyond are counted.
 pub fn advance(
     s: State,
     bytes: &[u8],
@@ -93,7 +94,7 @@ pub fn advance(
         return Next::Refused(rule::ENDED);
     }
     let options = s.options;
-    let found = judge::count_support(options, s.n, bytes, marks, stops, squares);
+    let found = judge::count_support(options, s.n, bytes, marks, stops, squares, false);
     let finding = found.finding;
     match finding {
         Finding::Refused(k) => Next::Refused(k),

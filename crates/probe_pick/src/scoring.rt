@@ -25,8 +25,9 @@ pub extern "C" fn probe_squared_residuals(
     h8: f64,
     marks: &[f64],
     squares: &mut [f64],
+    counting: bool,
 ) -> usize
-    ensures { λ r. ⌜ r ≡ beyondFound (now (marks .entry)) (modelOf h0 h1 h2 h3 h4 h5 h6 h7 h8) (now (squares .entry)) ⌝ }
+    ensures { λ r. ⌜ r ≡ beyondFound counting (now (marks .entry)) (modelOf h0 h1 h2 h3 h4 h5 h6 h7 h8) (now (squares .entry)) ⌝ }
     ensures { λ _. ⌜ now (squares .exit) ≡ filled (squaresOf (now (marks .entry)) (modelOf h0 h1 h2 h3 h4 h5 h6 h7 h8)) (now (squares .entry)) ⌝ }
 {
     let h = Model {
@@ -40,7 +41,7 @@ pub extern "C" fn probe_squared_residuals(
         h7,
         h8,
     };
-    measure::squared_residuals(h, marks, squares)
+    measure::squared_residuals(h, marks, squares, counting)
 }
 
 #[no_mangle]

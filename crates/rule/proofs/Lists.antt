@@ -1,7 +1,7 @@
 -- What a loop knows at place i of a list that it goes through from the front: what is still owed, from i on; or what is written, up to i.
 -- Assumes nothing.
-use mathlib.Core.Path.{_≡_, refl, sym, ap, ap₂, _∙_}
-use mathlib.Core.Bool.{Bool, true, false, cond}
+use mathlib.Core.Path.{_≡_, refl, sym, ap, ap₂, subst, _∙_}
+use mathlib.Core.Bool.{Bool, true, false, cond, _&&_}
 use mathlib.Core.Logic.{⊎-elim}
 use mathlib.Core.List.{List, [], _∷_, _++_, map, append-assoc, append-nil}
 use Prim.Native.Nat.{ℕ, zero, suc, _+_, _-_, _*_, _≤_, _<_, zero-le}
@@ -123,6 +123,19 @@ module _ {A : Type 0} (test : A → Bool) (l : List A) (d : A) where
             ∙ ap (λ x. k + x) (ap (λ x. x + countOf test (drop (i + 1) l)) (e .0 ∙ ap (λ x. cond x 1 0) answer) ∙ sym (count-next test l d i h))
             ∙ c .owed;
       }
+
+  pub counted-past : {i k : ℕ} → i < length l → test (getD l i d) ≡ false → Counted k i → Counted k (i + 1)
+  counted-past {i} {k} h e c = subst (λ n. Counted n (i + 1)) (add-zero k) (counted-next h (sym e) (refl, zero-le) c)
+
+-- none, and a count that is asked for or not
+count-none : {A : Type 0} (l : List A) → countOf (λ a. false) l ≡ 0
+unfolding countOf
+count-none [] = refl
+count-none (a ∷ l) = zero-add (countOf (λ a. false) l) ∙ count-none l
+
+pub count-asked : {A : Type 0} (asked : Bool) (test : A → Bool) (l : List A) → countOf (λ a. asked && test a) l ≡ cond asked (countOf test l) 0
+count-asked true test l = refl
+count-asked false test l = count-none l
 
 pub places-count : {A : Type 0} (test : A → Bool) (k : ℕ) (l : List A) → length (placesFrom k test l) ≡ countOf test l
 unfolding placesFrom countOf

@@ -292,8 +292,8 @@ impl Kinds {
     }
 }
 
-/// Measures, with the whole lent list and how many are beyond; each square's
-/// root is the distance.
+/// Measures, with the whole lent list and how many are beyond, counted or not;
+/// each square's root is the distance.
 fn measure(h: &Model, marks: &[f64], room: usize, kinds: &mut Kinds) {
     let list: &[Mark] = marks.as_chunks().0;
     let (mut theirs, mut told) = (junk(room), 0);
@@ -309,10 +309,12 @@ fn measure(h: &Model, marks: &[f64], room: usize, kinds: &mut Kinds) {
             *place = squared(h, mark);
         }
     }
-    let mut ours = junk(room);
-    let number = proved::squared_residuals(h, marks, &mut ours);
-    assert_eq!(number, told, "room {room}, {h:?} {marks:?}");
-    assert!(same_lists(&ours, &theirs), "room {room}, {h:?} {marks:?}");
+    for (counting, told) in [(true, told), (false, 0)] {
+        let mut ours = junk(room);
+        let number = proved::squared_residuals(h, marks, &mut ours, counting);
+        assert_eq!(number, told, "{counting}, room {room}, {h:?} {marks:?}");
+        assert!(same_lists(&ours, &theirs), "room {room}, {h:?} {marks:?}");
+    }
 }
 
 #[test]

@@ -16,6 +16,7 @@ mod c {
             marks_len: usize,
             squares: *mut f64,
             squares_len: usize,
+            counting: bool,
         ) -> usize;
         pub unsafe fn probe_count_inliers(thresh: f64, squares: *const f64, len: usize) -> usize;
         pub unsafe fn probe_rms(thresh: f64, squares: *const f64, len: usize, count: u32) -> f64;
@@ -39,8 +40,14 @@ mod c {
 use crate::pick::{lent, of};
 
 /// The square of each mark's distance, to the front of the lent list if it has
-/// a place for each; how many marks are beyond, 0 if it hasn't.
-pub fn squared_residuals(h: &[f64; 9], marks: &[f64], squares: &mut [f64]) -> usize {
+/// a place for each; how many marks are beyond, 0 if it hasn't or they aren't
+/// to be counted.
+pub fn squared_residuals(
+    h: &[f64; 9],
+    marks: &[f64],
+    squares: &mut [f64],
+    counting: bool,
+) -> usize {
     let &[h0, h1, h2, h3, h4, h5, h6, h7, h8] = h;
     let (list, len) = (of(marks), marks.len());
     // SAFETY: the pointers and lengths are those of slices, or NULL and 0; the
@@ -60,6 +67,7 @@ pub fn squared_residuals(h: &[f64; 9], marks: &[f64], squares: &mut [f64]) -> us
             len,
             lent(squares),
             squares.len(),
+            counting,
         )
     }
 }

@@ -22,14 +22,14 @@ slice-aggregate-count-inliers c = measured-front _ _ _ (c .before .mark-count .e
 count-inliers-requires : tie.Need-count-inliers-requires
 count-inliers-requires c κs = search needs
 
-cast-t12 : tie.Need-cast-t12
-cast-t12 c = let s = beyond-small _ _ (c .before .before .before .before .before .before .before .before .before .pre .0) (found-beyond _ _ _ (few-enough _ (c .before .before .before .before .before .before .before .before .before .pre .0) (c .before .before .before .before .before .before .before .before .before .pre .1)) (c .before .before .before .before .before .squared-residuals .ensures .0)) in omega (arith, s)
+cast-t13 : tie.Need-cast-t13
+cast-t13 c = let s = beyond-small _ _ _ (c .before .before .before .before .before .before .before .before .before .pre .0) (found-beyond _ _ _ _ (few-enough _ (c .before .before .before .before .before .before .before .before .before .pre .0) (c .before .before .before .before .before .before .before .before .before .pre .1)) (c .before .before .before .before .before .squared-residuals .ensures .0)) in omega (arith, s)
 
 same-length : tie.Need-same-length
 same-length c = search needs
 
 returns : tie.Need-returns
-returns c = (c .count-inliers .ensures ∙ ap (countIn _) (measured-roots _ _ _ (c .before .before .mark-count .ensures) (few-enough _ (c .before .before .before .before .before .before .before .before .before .pre .0) (c .before .before .before .before .before .before .before .before .before .pre .1)) (c .before .before .before .before .before .squared-residuals .ensures .1)), (found-beyond _ _ _ (few-enough _ (c .before .before .before .before .before .before .before .before .before .pre .0) (c .before .before .before .before .before .before .before .before .before .pre .1)) (c .before .before .before .before .before .squared-residuals .ensures .0), c .before .before .before .before .before .squared-residuals .ensures .1))
+returns c = (c .count-inliers .ensures ∙ ap (countIn _) (measured-roots _ _ _ (c .before .before .mark-count .ensures) (few-enough _ (c .before .before .before .before .before .before .before .before .before .pre .0) (c .before .before .before .before .before .before .before .before .before .pre .1)) (c .before .before .before .before .before .squared-residuals .ensures .1)), (found-beyond _ _ _ _ (few-enough _ (c .before .before .before .before .before .before .before .before .before .pre .0) (c .before .before .before .before .before .before .before .before .before .pre .1)) (c .before .before .before .before .before .squared-residuals .ensures .0), c .before .before .before .before .before .squared-residuals .ensures .1))
 
 pub count-under-spec : {M : Type 1} → statement M
 count-under-spec =
@@ -40,6 +40,6 @@ count-under-spec =
     slice-reshare-prefix-count-inliers
     slice-aggregate-count-inliers
     count-inliers-requires
-    cast-t12
+    cast-t13
     same-length
     returns)

@@ -1,6 +1,7 @@
 -- `judge::judge` meets its contract. Assumes nothing.
 use mathlib.Core.Path.{refl, sym, _∙_}
 use borrow.Author.Needs.{needs}
+use Rattle.numbers.specs.Measure.{ifCounted}
 use lib.Seq.{length-take-le}
 use Rattle.judge.proofs.Left.{left-room, support-leaves, verdict-refused, verdict-empty, verdict-few, support-scored}
 use Rattle.judge.proofs.judge.Statement.{statement}
@@ -31,15 +32,19 @@ scored-with-requires : tie.Need-scored-with-requires
 scored-with-requires c κs = search needs
 
 returns : tie.Need-returns
+unfolding ifCounted
 returns c = (verdict-refused _ _ _ (c .before .before .before .count-support .ensures .0) (c .before .finding .given .1), c .before .before .before .count-support .ensures .1 .0)
 
 returns-2 : tie.Need-returns-2
+unfolding ifCounted
 returns-2 c = (verdict-empty _ _ _ (c .before .before .count-support .ensures .0) (c .enum-told .given .1), c .before .before .count-support .ensures .1 .0)
 
 returns-3 : tie.Need-returns-3
+unfolding ifCounted
 returns-3 c = (verdict-few _ _ _ (c .before .before .before .count-support .ensures .0) (c .before .finding2 .given .1), c .before .before .before .count-support .ensures .1 .0)
 
 returns-4 : tie.Need-returns-4
+unfolding ifCounted
 returns-4 c = (c .scored-with .ensures ∙ support-scored _ _ _ (c .before .before .before .before .before .count-support .ensures .0) (c .before .before .before .finding3 .given .1) _ (c .before .before .before .before .before .count-support .ensures .1 .1) (left-room _ _ _ _ refl (c .before .before .before .before .before .count-support .ensures .1 .1)), c .before .before .before .before .before .count-support .ensures .1 .0)
 
 pub judge-spec : {M : Type 1} → statement M
