@@ -44,7 +44,7 @@ Opens o marks stops r = viewOpened r ≡ openingAnswer o marks stops
 abbrev pub OpensBy : (bytes : List ℕ) → (marks : List Float) → (stops : List ℕ) → Opened → Type 0
 OpensBy bytes marks stops r = viewOpened r ≡ recordAnswer bytes marks stops
 
--- a trial's answer without its state: 'Answers are compared without their state'
+-- a trial's answer without its state ('Answers are compared without their state'): the outcome, and the number beyond of document 02, order 2
 pub record Told : Type 0 where
   pub outcome : Outcome
   pub beyond : ℕ

@@ -180,17 +180,17 @@ fn count_refit(
 {
     let least = o.min_inliers as usize;
     let fit = pair.fit;
-    let c = count_under(fit, o.thresh, marks, squares, counting);
-    let beyond = c.beyond;
-    if c.within < least {
+    let first = count_under(fit, o.thresh, marks, squares, counting);
+    let beyond = first.beyond;
+    if first.within < least {
         return Found {
-            finding: Finding::Few(c.within as u32),
+            finding: Finding::Few(first.within as u32),
             beyond,
         };
     }
     if !o.refit {
         return Found {
-            finding: supported_by(o, fit, c.within, marks, stops),
+            finding: supported_by(o, fit, first.within, marks, stops),
             beyond,
         };
     }
@@ -199,7 +199,7 @@ fn count_refit(
     if again.within < least {
         measure::squared_residuals(fit, marks, squares, false);
         return Found {
-            finding: supported_by(o, fit, c.within, marks, stops),
+            finding: supported_by(o, fit, first.within, marks, stops),
             beyond,
         };
     }
