@@ -1,7 +1,7 @@
 -- The squares of a list of marks: one for each mark, and the distances are their roots; and the walk that stores them and counts the marks that are beyond.
 -- Assumes nothing.
 use mathlib.Core.Path.{_≡_, refl, sym, ap, _∙_}
-use mathlib.Core.Bool.{Bool, true, false, cond, _&&_}
+use mathlib.Core.Bool.{Bool, true, false, not, cond, _&&_}
 use mathlib.Core.List.{List, [], _∷_, map}
 use Prim.Native.Nat.{ℕ, _+_, _≤_, _<_}
 use borrow.Author.Tests.{lt-ltb, le-ltb}
@@ -71,9 +71,15 @@ module _ (counting : Bool) (l : List Float) (h : Model) (entry : List Float) whe
         one-stored : Stored (squaresOf l h) entry (i + 1) (set s i q)
         one-stored = stored-more _ _ many room (squaredOf h noMark) inside (square ∙ ap (squaredOf h) at ∙ square-at l h i) (k .stored)
 
-        pub measured-next : {r : ℕ} → counting ≡ true → (r ≡ cond (beyondUnder h m) 1 0) × (r ≤ 1) → Measured (i + 1) (found + r) (set s i q)
+        pub measured-next : {ahead : Bool} {r : ℕ} → counting ≡ true → ahead ≡ not (beyondUnder h m) → (r ≡ cond ahead 0 1) × (r ≤ 1) → Measured (i + 1) (found + r) (set s i q)
         unfolding markAt
-        measured-next e one = record { stored = one-stored; counted = counted-next far (marksOf l) noMark {b = beyondUnder h m} (rw (← count) inside) (rw (e, at)) one (k .counted) }
+        measured-next e a one =
+            let is = one .0 ∙ ap (λ b. cond b 0 1) a ∙ turned (beyondUnder h m) in
+            record { stored = one-stored; counted = counted-next far (marksOf l) noMark {b = beyondUnder h m} (rw (← count) inside) (rw (e, at)) (is, one .1) (k .counted) }
+          where
+            turned : (b : Bool) → _≡_ {A = ℕ} (cond (not b) 0 1) (cond b 1 0)
+            turned true = refl
+            turned false = refl
 
         pub measured-past : counting ≡ false → Measured (i + 1) found (set s i q)
         measured-past e = record { stored = one-stored; counted = counted-past far (marksOf l) noMark (rw (← count) inside) (rw e) (k .counted) }

@@ -6,34 +6,43 @@ use sheet::Mark;
 use sheet::Model;
 use sheet::Side;
 ghost use mathlib.Core.Path.{_≡_};
-ghost use mathlib.Core.Bool.{cond};
+ghost use mathlib.Core.Bool.{cond, not};
 ghost use Prim.Native.Nat.{_≤_};
 ghost use Rattle.rule.specs.Lists.{filled};
 ghost use Rattle.sheet.specs.Distance.{beyondUnder};
 ghost use Rattle.measure.specs.Distances.{squaredOf, squaresOf, beyondFound};
 
-// The square of a mark's distance, infinite where the mark is beyond, and how many are: one or none.
+// The square of a mark's distance, infinite where the mark is beyond, and whether it is not.
 struct Squared {
     square: f64,
-    beyond: usize,
+    ahead: bool,
 }
 
 // Beyond unless s > 0. The square is worked out either way, so that the compiler has a choice of two
 // numbers and no jump.
 fn squared_residual(h: Model, m: Mark) -> Squared
     ensures { λ r. ⌜ r .square ≡ squaredOf h m ⌝ }
-    ensures { λ r. ⌜ (r .beyond ≡ cond (beyondUnder h m) 1 0) × (r .beyond ≤ 1) ⌝ }
+    ensures { λ r. ⌜ r .ahead ≡ not (beyondUnder h m) ⌝ }
 {
     let to = sheet::project(h, sheet::point_of(m, Side::Sheet));
     let square = sheet::squared_apart(to.at, sheet::point_of(m, Side::Pixel));
     if to.s > 0.0 {
-        Squared { square, beyond: 0 }
+        Squared {
+            square,
+            ahead: true,
+        }
     } else {
         Squared {
             square: f64::from_bits(0x7ff0_0000_0000_0000),
-            beyond: 1,
+            ahead: false,
         }
     }
+}
+
+fn one_unless(b: bool) -> usize
+    ensures { λ r. ⌜ (r ≡ cond b 0 1) × (r ≤ 1) ⌝ }
+{
+    if b { 0 } else { 1 }
 }
 
 // Writes the square of each mark's distance to the front of `squares`, and answers how many marks are
@@ -55,7 +64,7 @@ pub fn squared_residuals(h: Model, marks: &[f64], squares: &mut [f64], counting:
         squares[i] = q.square;
         i += 1;
         if counting {
-            beyond += q.beyond;
+            beyond += one_unless(q.ahead);
         }
     }
     beyond

@@ -1,6 +1,5 @@
 -- `measure::squared_residual` meets its contract. Assumes nothing.
 use mathlib.Core.Path.{refl}
-use native.Mathlib.Omega.{arith}
 use borrow.Author.Needs.{needs}
 use lib.Ieee.{nanBits}
 use Rattle.numbers.specs.Measure.{isBeyond}
@@ -27,11 +26,11 @@ float-from-bits-t9 c = tt
 
 returns : tie.Need-returns
 unfolding squaredOf beyondUnder measureOf isBeyond
-returns c = rw (← c .before .before .before .before .before .point-of .ensures, ← c .before .before .before .before .project .ensures, ← c .before .before .before .point-of2 .ensures, c .if1 .taken) (c .before .before .squared-apart .ensures, (refl, omega arith))
+returns c = rw (← c .before .before .before .before .before .point-of .ensures, ← c .before .before .before .before .project .ensures, ← c .before .before .before .point-of2 .ensures, c .if1 .taken) (c .before .before .squared-apart .ensures, refl)
 
 returns-2 : tie.Need-returns-2
 unfolding squaredOf beyondUnder measureOf isBeyond
-returns-2 c = rw (← c .before .before .before .before .before .point-of .ensures, ← c .before .before .before .before .project .ensures, c .if1 .left) (refl, (refl, omega arith))
+returns-2 c = rw (← c .before .before .before .before .before .point-of .ensures, ← c .before .before .before .before .project .ensures, c .if1 .left) (refl, refl)
 
 pub squared-residual-spec : {M : Type 1} → statement M
 squared-residual-spec =

@@ -36,14 +36,17 @@ slice-write-squares c = let h = measured-same _ _ _ _ (c .before .before .before
 add-i : tie.Need-add-i Inv-loop μ-loop
 add-i c = omega arith
 
+one-unless-requires : tie.Need-one-unless-requires Inv-loop μ-loop
+one-unless-requires c κs = search needs
+
 add-beyond : tie.Need-add-beyond Inv-loop μ-loop
-add-beyond c = let s = c .before .before .before .before .before .loop .inv .1 .counted .small in let t = c .before .before .squared-residual .ensures .1 .1 in omega (arith, s, t)
+add-beyond c = let s = c .before .before .before .before .before .loop .inv .1 .counted .small in let t = c .one-unless .ensures .1 in omega (arith, s, t)
 
 loop-less : tie.Need-loop-less Inv-loop μ-loop
 loop-less c = omega arith
 
 loop-again : tie.Need-loop-again Inv-loop μ-loop
-loop-again c = (omega arith, measured-next _ _ _ _ (c .before .before .before .before .before .before .before .mark-count .ensures) (c .before .before .before .before .before .before .if1 .left) (c .before .before .before .before .loop-test .taken) (c .before .before .before .mark-at .ensures) (c .before .before .squared-residual .ensures .0) (c .before .before .before .before .before .loop .inv .1) (c .before .if2 .taken) (c .before .before .squared-residual .ensures .1))
+loop-again c = (omega arith, measured-next _ _ _ _ (c .before .before .before .before .before .before .before .mark-count .ensures) (c .before .before .before .before .before .before .if1 .left) (c .before .before .before .before .loop-test .taken) (c .before .before .before .mark-at .ensures) (c .before .before .squared-residual .ensures .0) (c .before .before .before .before .before .loop .inv .1) (c .before .if2 .taken) (c .before .before .squared-residual .ensures .1) (c .one-unless .ensures))
 
 loop-less-2 : tie.Need-loop-less-2 Inv-loop μ-loop
 loop-less-2 c = omega arith
@@ -71,6 +74,7 @@ squared-residuals-spec =
     mul-squares
     slice-write-squares
     add-i
+    one-unless-requires
     add-beyond
     loop-less
     loop-again
