@@ -58,4 +58,3 @@ module _ {M : Type 0} (o : Options) (distances : M → List Float) (stops : List
     few-and-beyond unfitted k e = absurd (let z : _≡_ {A = ℕ} 0 1 = cc in omega (arith, z))
     few-and-beyond (fitted fit) k e = with-few fit fit k e
     few-and-beyond (refitted fit refit) k e = with-few fit (standsOf o distances stops fit refit) k e
-
