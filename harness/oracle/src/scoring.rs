@@ -1,18 +1,15 @@
 //! Scoring a list of squared distances, in plain Rust: the root of each, the
 //! comparison with the threshold, the sum in index order from 0.
 
-use crate::sheet::divisor;
+use crate::sheet::squared_apart;
 use crate::{Mark, Model, beyond};
 
 /// The square that 01's distance is the root of.
 pub fn squared(h: &Model, mark: &Mark) -> f64 {
-    if beyond(h, mark) {
-        return f64::INFINITY;
+    match beyond(h, mark) {
+        true => f64::INFINITY,
+        false => squared_apart(h, mark),
     }
-    let (s, &[x, y, u, v]) = (divisor(h, mark), mark);
-    let du = ((h[0] * x + h[1] * y) + h[2]) / s - u;
-    let dv = ((h[3] * x + h[4] * y) + h[5]) / s - v;
-    du * du + dv * dv
 }
 
 /// The places of the squares whose root is at most the threshold.

@@ -47,7 +47,7 @@ pub enum Measure {
 }
 
 /// 01's s.
-pub(crate) fn divisor(h: &Model, &[x, y, ..]: &Mark) -> f64 {
+fn divisor(h: &Model, &[x, y, ..]: &Mark) -> f64 {
     (h[6] * x + h[7] * y) + h[8]
 }
 
@@ -57,16 +57,21 @@ pub fn beyond(h: &Model, mark: &Mark) -> bool {
     !(divisor(h, mark) > 0.0)
 }
 
-/// 01's distance, the residual of the replayed estimator: infinite where the
-/// mark is beyond.
-pub fn distance(h: &Model, mark: &Mark) -> f64 {
-    if beyond(h, mark) {
-        return f64::INFINITY;
-    }
+/// 01's du·du + dv·dv, for a mark that isn't beyond.
+pub(crate) fn squared_apart(h: &Model, mark: &Mark) -> f64 {
     let (s, &[x, y, u, v]) = (divisor(h, mark), mark);
     let du = ((h[0] * x + h[1] * y) + h[2]) / s - u;
     let dv = ((h[3] * x + h[4] * y) + h[5]) / s - v;
-    (du * du + dv * dv).sqrt()
+    du * du + dv * dv
+}
+
+/// 01's distance, the residual of the replayed estimator: infinite where the
+/// mark is beyond.
+pub fn distance(h: &Model, mark: &Mark) -> f64 {
+    match beyond(h, mark) {
+        true => f64::INFINITY,
+        false => squared_apart(h, mark).sqrt(),
+    }
 }
 
 /// The same, with beyond told from a number, which may be infinite too.
