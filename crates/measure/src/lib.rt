@@ -1,4 +1,4 @@
-// The measuring of a sheet's marks under a model (document 01, 'Distance', and document 02, order 2):
+// The measuring of a sheet's marks under a model (document 01, 'Distance', and document 02, orders 2, 3):
 // the square of each mark's distance, in a list that is lent, and how many marks are beyond. It is all
 // that scoring sees of the model, the mark and the distance. No root is taken here, and there is no
 // threshold.
@@ -20,12 +20,12 @@ struct Squared {
 
 // Beyond unless s > 0. The square is worked out either way, so that the compiler has a choice of two
 // numbers and no jump.
-fn squared_residual(h: Model, m: Mark) -> Squared
-    ensures { λ r. ⌜ r .square ≡ squaredOf h m ⌝ }
+fn squared_mark(h: Model, ratio: f64, m: Mark) -> Squared
+    ensures { λ r. ⌜ r .square ≡ squaredOf ratio h m ⌝ }
     ensures { λ r. ⌜ r .ahead ≡ not (beyondUnder h m) ⌝ }
 {
     let to = sheet::project(h, sheet::point_of(m, Side::Sheet));
-    let square = sheet::squared_apart(to.at, sheet::point_of(m, Side::Pixel));
+    let square = sheet::squared_residual(to.at, sheet::point_of(m, Side::Pixel), ratio);
     if to.s > 0.0 {
         Squared {
             square,
@@ -49,9 +49,15 @@ fn one_unless(b: bool) -> usize
 // beyond, if they are to be counted; where it has not a place for each mark, it writes nothing and
 // answers 0. The compiler makes a walk that counts and one that doesn't, so who doesn't ask for the
 // number pays nothing for it.
-pub fn squared_residuals(h: Model, marks: &[f64], squares: &mut [f64], counting: bool) -> usize
+pub fn squared_residuals(
+    h: Model,
+    ratio: f64,
+    marks: &[f64],
+    squares: &mut [f64],
+    counting: bool,
+) -> usize
     ensures { λ r. ⌜ r ≡ beyondFound counting (now (marks .entry)) h (now (squares .entry)) ⌝ }
-    ensures { λ _. ⌜ now (squares .exit) ≡ filled (squaresOf (now (marks .entry)) h) (now (squares .entry)) ⌝ }
+    ensures { λ _. ⌜ now (squares .exit) ≡ filled (squaresOf ratio (now (marks .entry)) h) (now (squares .entry)) ⌝ }
 {
     let n = sheet::mark_count(marks);
     if squares.len() < n {
@@ -60,7 +66,7 @@ pub fn squared_residuals(h: Model, marks: &[f64], squares: &mut [f64], counting:
     let mut beyond = 0;
     let mut i = 0;
     while i < n {
-        let q = squared_residual(h, sheet::mark_at(marks, i));
+        let q = squared_mark(h, ratio, sheet::mark_at(marks, i));
         squares[i] = q.square;
         i += 1;
         if counting {

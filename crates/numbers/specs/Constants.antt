@@ -1,4 +1,4 @@
--- The doubles that document 01 writes as numbers, by their bit patterns, as a program's literals are. Beside each decimal stands the proof that the
+-- The doubles that documents 01 and 02 write as numbers, by their bit patterns, as a program's literals are. Beside each decimal stands the proof that the
 -- pattern is that decimal, rounded to the nearest double.
 use mathlib.Core.Path.{_≡_, refl}
 use Prim.Native.Nat.{_^_}
@@ -60,6 +60,21 @@ usualConfidence = ofBits binary64 0x3fef_ae14_7ae1_47ae
 usualConfidence-is : usualConfidence ≡ round binary64 false 99 100
 unfolding ofBits round
 usualConfidence-is = refl
+
+-- 0.01 and 100, the ends of the row ratios
+abbrev pub leastRatio : Float
+leastRatio = ofBits binary64 0x3f84_7ae1_47ae_147b
+
+leastRatio-is : leastRatio ≡ round binary64 false 1 100
+unfolding ofBits round
+leastRatio-is = refl
+
+abbrev pub greatestRatio : Float
+greatestRatio = ofBits binary64 0x4059_0000_0000_0000
+
+greatestRatio-is : greatestRatio ≡ round binary64 false 100 1
+unfolding ofBits round
+greatestRatio-is = refl
 
 -- 1e100, the largest magnitude of a coefficient
 abbrev pub most : Float

@@ -3,3 +3,4 @@ pub mod Finite
 pub mod Quadratic
 pub mod Rank
 pub mod Measure
+pub mod Ratio

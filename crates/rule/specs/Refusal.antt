@@ -1,4 +1,4 @@
--- Document 01, 'Refusals': the numbers by which an entry turns a call down.
+-- Document 01, 'Refusals', and document 02: the numbers by which an entry turns a call down.
 use Prim.Native.Nat.{ℕ}
 
 -- a record's length, mark, filler, unmarked number, refit without fit, or a non-finite model
@@ -60,3 +60,7 @@ PIXEL-LINE = 14
 -- the root of a NaN or a negative number; a coefficient that is not finite or of magnitude above 1e100
 abbrev pub NUMBER : ℕ
 NUMBER = 15
+
+-- the row ratio is not finite, or not from 0.01 to 100
+abbrev pub RATIO : ℕ
+RATIO = 16

@@ -1,4 +1,4 @@
-// The refusals of document 01 by name: every entry that turns a call down answers one of these
+// The refusals of documents 01 and 02 by name: every entry that turns a call down answers one of these
 // numbers. `specs/Refusal.antt` has the same names for contracts, and what each of them means.
 
 pub const RECORD: u32 = 1;
@@ -30,3 +30,5 @@ pub const SHEET_LINE: u32 = 13;
 pub const PIXEL_LINE: u32 = 14;
 
 pub const NUMBER: u32 = 15;
+
+pub const RATIO: u32 = 16;

@@ -7,12 +7,13 @@ use borrow.Author.Tests.{eq-eqb, ne-eqb, lt-ltb, le-ltb}
 use lib.Dec.{T}
 use lib.ListN.{length}
 use lib.Ieee.{Float}
-use Rattle.rule.specs.Refusal.{RECORD, SHAPE, POINT}
+use Rattle.rule.specs.Refusal.{RECORD, SHAPE, POINT, RATIO}
 use Rattle.rule.specs.Answer.{refused, gives}
 use Rattle.rule.specs.Order.{Test, firstFailed, decided}
 use Rattle.rule.proofs.Order.{numbered, all-passed, one-failed}
 use Rattle.numbers.specs.Constants.{farthest}
 use Rattle.numbers.specs.Finite.{allFinite}
+use Rattle.numbers.specs.Ratio.{ratioAccepted, ratio}
 use Rattle.sheet.specs.Marks.{markNumbers, shape, point, allWithin, marksTests}
 use Rattle.sheet.specs.Distance.{modelNumbers, model, distanceTests, measureOf, distanceAnswer}
 use Rattle.sheet.specs.declared.marks.Mark.{Mark}
@@ -53,15 +54,21 @@ module _ (l : List Float) where
 
 -- ---- the distance
 
-module _ (h : Model) (m : Mark) where
-  pub model-refused : allFinite (modelNumbers h) ≡ false → refused RECORD ≡ distanceAnswer h m
+module _ (h : Model) (m : Mark) (r : Float) where
+  pub model-refused : allFinite (modelNumbers h) ≡ false → refused RECORD ≡ distanceAnswer r h m
   unfolding distanceAnswer decided firstFailed distanceTests model
   model-refused f = rw f
 
-  pub mark-refused : allFinite (modelNumbers h) ≡ true → allWithin farthest (markNumbers m) ≡ false → refused POINT ≡ distanceAnswer h m
-  unfolding distanceAnswer decided firstFailed distanceTests model point
-  mark-refused f g = rw (f, g)
+  module _ (finite : allFinite (modelNumbers h) ≡ true) where
+    pub mark-refused : allWithin farthest (markNumbers m) ≡ false → refused POINT ≡ distanceAnswer r h m
+    unfolding distanceAnswer decided firstFailed distanceTests model point
+    mark-refused g = rw (finite, g)
 
-  pub measured : allFinite (modelNumbers h) ≡ true → allWithin farthest (markNumbers m) ≡ true → gives (measureOf h m) ≡ distanceAnswer h m
-  unfolding distanceAnswer decided firstFailed distanceTests model point
-  measured f g = rw (f, g)
+    module _ (in-range : allWithin farthest (markNumbers m) ≡ true) where
+      pub ratio-refused : ratioAccepted r ≡ false → refused RATIO ≡ distanceAnswer r h m
+      unfolding distanceAnswer decided firstFailed distanceTests model point ratio
+      ratio-refused g = rw (finite, in-range, g)
+
+      pub measured : ratioAccepted r ≡ true → gives (measureOf r h m) ≡ distanceAnswer r h m
+      unfolding distanceAnswer decided firstFailed distanceTests model point ratio
+      measured g = rw (finite, in-range, g)

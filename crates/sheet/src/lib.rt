@@ -19,3 +19,4 @@ pub use model::distance;
 pub use model::model_finite;
 pub use model::project;
 pub use model::residual;
+pub use model::squared_residual;

@@ -1,17 +1,16 @@
-// The distance of a mark under a candidate (document 01, 'Distance'), or that the mark is beyond
-// (document 02, order 2): every operation once, in 01's order.
+// The distance of a mark under a candidate (document 01, 'Distance') by the row ratio (document 02,
+// order 3), or that the mark is beyond (order 2): every operation once, in 01's order.
 use crate::marks::Mark;
 use crate::marks::Point;
 use crate::marks::Side;
 use crate::marks::all_in_range;
 use crate::marks::point_of;
-use crate::marks::squared_apart;
 ghost use mathlib.Core.Path.{_≡_};
 ghost use Rattle.rule.specs.Answer.{gives};
 ghost use Rattle.numbers.specs.Finite.{allFinite};
 ghost use Rattle.numbers.specs.Constants.{farthest};
 ghost use Rattle.sheet.specs.Marks.{allWithin, markNumbers};
-ghost use Rattle.sheet.specs.Distance.{projectionOf, measureOf, distanceAnswer, viewMeasured, modelNumbers};
+ghost use Rattle.sheet.specs.Distance.{projectionOf, squaredResidual, measureOf, distanceAnswer, viewMeasured, modelNumbers};
 
 // A candidate: the homography from the sheet to pixels, row by row.
 pub struct Model {
@@ -52,13 +51,20 @@ pub fn project(h: Model, p: Point) -> Projection
     Projection { s, at }
 }
 
+// How far a mapped point is from a mark's pixel, squared, by the row ratio.
+pub fn squared_residual(to: Point, pixel: Point, ratio: f64) -> f64
+    ensures { λ r. ⌜ r ≡ squaredResidual ratio to pixel ⌝ }
+{
+    numbers::squared_off(ratio, to.x - pixel.x, to.y - pixel.y)
+}
+
 // The distance for any numbers: beyond unless s > 0. It refuses nothing.
-pub fn residual(h: Model, m: Mark) -> Measured
-    ensures { λ r. ⌜ viewMeasured r ≡ gives (measureOf h m) ⌝ }
+pub fn residual(h: Model, m: Mark, ratio: f64) -> Measured
+    ensures { λ r. ⌜ viewMeasured r ≡ gives (measureOf ratio h m) ⌝ }
 {
     let to = project(h, point_of(m, Side::Sheet));
     if to.s > 0.0 {
-        Measured::Distance(root::sqrt(squared_apart(to.at, point_of(m, Side::Pixel))))
+        Measured::Distance(root::sqrt(squared_residual(to.at, point_of(m, Side::Pixel), ratio)))
     } else {
         Measured::Beyond
     }
@@ -79,17 +85,21 @@ fn mark_in_range(m: Mark) -> bool
     all_in_range(&numbers)
 }
 
-// The distance of a mark under a candidate; refused with 1 where a number of the candidate is not
-// finite, then with 6 where one of the mark is out of range.
-pub fn distance(h: Model, m: Mark) -> Measured
-    ensures { λ r. ⌜ viewMeasured r ≡ distanceAnswer h m ⌝ }
+// The distance of a mark under a candidate by a row ratio; refused with 1 where a number of the
+// candidate is not finite, then with 6 where one of the mark is out of range, then with 16 where the
+// ratio is not from 0.01 to 100.
+pub fn distance(h: Model, m: Mark, ratio: f64) -> Measured
+    ensures { λ r. ⌜ viewMeasured r ≡ distanceAnswer ratio h m ⌝ }
 {
     if !model_finite(h) {
         return Measured::Refused(rule::RECORD);
     }
-    if mark_in_range(m) {
-        residual(h, m)
+    if !mark_in_range(m) {
+        return Measured::Refused(rule::POINT);
+    }
+    if numbers::ratio_accepted(ratio) {
+        residual(h, m, ratio)
     } else {
-        Measured::Refused(rule::POINT)
+        Measured::Refused(rule::RATIO)
     }
 }

@@ -1,12 +1,12 @@
--- `measure::squared_residual` meets its contract. Assumes nothing.
+-- `measure::squared_mark` meets its contract. Assumes nothing.
 use mathlib.Core.Path.{refl}
 use borrow.Author.Needs.{needs}
 use lib.Ieee.{nanBits}
 use Rattle.numbers.specs.Measure.{isBeyond}
 use Rattle.sheet.specs.Distance.{measureOf, beyondUnder}
 use Rattle.measure.specs.Distances.{squaredOf}
-use Rattle.measure.proofs.squared_residual.Statement.{statement}
-use Rattle.measure.proofs.squared_residual.Tie as tie
+use Rattle.measure.proofs.squared_mark.Statement.{statement}
+use Rattle.measure.proofs.squared_mark.Tie as tie
 
 point-of-requires : tie.Need-point-of-requires
 point-of-requires c κs = search needs
@@ -32,8 +32,8 @@ returns-2 : tie.Need-returns-2
 unfolding squaredOf beyondUnder measureOf isBeyond
 returns-2 c = rw (← c .before .before .before .before .before .point-of .ensures, ← c .before .before .before .before .project .ensures, c .if1 .left) (refl, refl)
 
-pub squared-residual-spec : {M : Type 1} → statement M
-squared-residual-spec =
+pub squared-mark-spec : {M : Type 1} → statement M
+squared-mark-spec =
     tie.close
     (tie.spec
     point-of-requires
