@@ -3,7 +3,7 @@
 use mathlib.Core.Path.{_≡_, refl, subst}
 use mathlib.Core.Bool.{true, false}
 use Prim.Native.Nat.{ℕ, zero, suc, _+_, _-_, _*_, _^_, _≤_, _<_, zero-le}
-use native.Mathlib.Nat.{le-refl, lt-of-lt-of-le, zero-lt-suc, zero-mul, mul-pos, mul-one, mul-le-mul-right, add-zero}
+use native.Mathlib.Nat.{le-refl, zero-lt-suc, zero-mul, mul-pos, mul-one, mul-le-mul-right, add-zero}
 use native.Mathlib.Omega.{arith}
 use borrow.Author.Tests.{ne-eqb}
 use lib.Dec.{T, ltb→lt, lt→ltb, eqb·suc-zero}
@@ -11,17 +11,18 @@ use lib.Pow.{pow-pos}
 use lib.IntN.{ℤ, pos}
 use lib.Ieee.{Float, nan, inf, fin, binary64, up, down, round, sum, add, mul, div, le, lt, eq, ofInt, ofBits, toBits, fits}
 use lib.Ieee.Fits.{up-pos, down-pos, div-fits}
-use lib.Ieee.Exact.{HasValue, round-exact}
+use lib.Ieee.Exact.{HasValue}
 use lib.Ieee.Order.{round-mono, le-of-values}
 use lib.Ieee.Positive.{positive, positive-of-value, mul-at}
 use Rattle.rule.specs.Arith.{_⊕_, _⊗_, _⊘_, clear}
-use Rattle.root.specs.Root.{significand, exponent, rootBits, rootOf}
-use Rattle.root.proofs.Patterns.{value, value-next, value-mono, significand-lt}
+use Rattle.root.specs.Root.{rootBits, rootOf}
+use Rattle.root.proofs.Patterns.{value}
 use Rattle.root.proofs.Doubles.{root-positive, read-value}
 use Rattle.root.proofs.Correct.{Pattern, pattern, on-patterns, root-correct}
 use Rattle.root.proofs.Monotone.{root-monotone}
 use Rattle.root.proofs.Square.{root-square}
 use Rattle.numbers.specs.Constants.{zero′}
+use Rattle.numbers.proofs.Exact.{round-own}
 use Rattle.book.specs.Score.{rmsOf}
 use Rattle.book.proofs.Clear.{clear-hasRoot, round-clear, add-clear, div-clear, count-positive}
 use Rattle.book.proofs.ClearOrder.{is-at-most, le-same, le-infinity, le-trans-clear}
@@ -125,27 +126,9 @@ add-under x x′ y y′ p p′ q q′ h k = add-ordered p q q′ (ordered x x′
 
 -- ---- a sum with nothing
 
-value-end : value (2047 * 2 ^ 52) ≡ 2 ^ 2098
-unfolding value significand exponent
-value-end = refl
-
--- a finite double is below 2 ^ 1024, which is 2 ^ 2098 units
-value-short : (p : ℕ) → p < 2047 * 2 ^ 52 → value p < 2 ^ 2098
-value-short p h =
-    let u = value-next p in
-    let g = pow-pos (exponent p) in
-    let l : value p < value (suc p) = omega arith in
-    lt-of-lt-of-le l (subst (λ (n : ℕ). value (suc p) ≤ n) value-end (value-mono h))
-
 -- the fraction of a finite double is a double
 own-round : (m : ℕ) (e : ℤ) → T (fits binary64 (fin false m e)) → HasValue (round binary64 false (m * up e) (down e)) false (m * up e) (down e)
-unfolding value
-own-round zero e f = round-exact binary64 false (0 * up e) (down e) 0 0 (down-pos e) (pow-pos 53) (pow-pos 2098) (simp zero-mul)
-own-round (suc m) e f =
-    let x = fin false (suc m) e in
-    let b = toBits binary64 x in
-    let P = pattern x f (lt→ltb 0 (suc m) (zero-lt-suc m)) in
-    round-exact binary64 false (suc m * up e) (down e) (significand b) (exponent b) (down-pos e) (significand-lt b) (value-short b (P .finite)) (has-value P .1)
+own-round m e f = rw (round-own false m e f) (refl, refl)
 
 none-ordered : {x x′ : Float} → T (fits binary64 x) → Ordered x x′ → T (le (x ⊕ zero′) x′)
 unfolding add sum ofBits clear

@@ -68,7 +68,7 @@ pub record Indexes (s : State) (marks : List Float) (entry : List ℕ) (r : Inde
 -- the whole run, with its two lent lists before and after
 abbrev pub Ran : Files → (winner indices : List ℕ) → (r : ℕ) → (winner′ indices′ : List ℕ) → Type 0
 Ran f winner indices r winner′ indices′ =
-    Gave (runAnswer f (length winner) (length indices)) (optionsOf (f .options) .thresh) (numbersIn (f .marks)) winner indices r winner′ indices′
+    Gave (runAnswer f (length winner) (length indices)) (optionsOf (f .options)) (numbersIn (f .marks)) winner indices r winner′ indices′
 
 -- ---- a list of calls
 
@@ -108,7 +108,7 @@ pub record IndicesGiven (o : RansacOptions) (opened : List Float) (s : State) (w
   pub written : (entry after : List ℕ) (r : Indexed) → Indexes s opened entry r after → length (marksOf opened) ≤ length entry → r ≡ Written (w .count)
   -- Whatever marks are handed in that the call accepts, and whatever list is lent; what is behind the last index stays.
   pub given : (marks : List Float) (entry after : List ℕ) (r : Indexed) → Indexes s marks entry r after → (k : ℕ) → r ≡ Written k
-      → Exactly (length (marksOf marks)) (λ i. inlier (w .model) (o .thresh) (markAt marks i)) (take k after) × (drop k after ≡ drop k entry)
+      → Exactly (length (marksOf marks)) (λ i. inlier (o .ratio) (w .model) (o .thresh) (markAt marks i)) (take k after) × (drop k after ≡ drop k entry)
 
 -- ---- after a list of calls
 
@@ -119,7 +119,7 @@ pub record AfterCalls (o : RansacOptions) (marks : List Float) (calls : List Cal
   pub kept : Kept (ruleOf o) (judgementOf o (length (marksOf marks))) calls (map viewTold answers) (bookOf s)
   -- the winner's count and rms are its own model's, over the opening's marks
   pub own : (w : Winner Model) → viewBest (s .winner) ≡ held w
-      → (w .count ≡ countIn (o .thresh) (distancesOf marks (w .model))) × (w .rms ≡ rmsIn (o .thresh) (distancesOf marks (w .model)))
+      → (w .count ≡ countIn (o .thresh) (distancesOf (o .ratio) marks (w .model))) × (w .rms ≡ rmsIn (o .thresh) (distancesOf (o .ratio) marks (w .model)))
   pub indices : (w : Winner Model) → viewBest (s .winner) ≡ held w → IndicesGiven o marks s w
 
 -- ---- the whole run

@@ -40,17 +40,19 @@ use Rattle.judge.proofs.Ways.{run-passed}
 pub few-enough : (l : List Float) {n : ℕ} → length l ≤ 8000 → 2000 ≤ n → length (marksOf l) ≤ n
 few-enough l h room = let k = count l in omega (arith, k, h, room)
 
-pub measured-fits : (l : List Float) (h : Model) (entry : List Float) {n : ℕ} {s : List Float} → n ≡ length (marksOf l) → length (marksOf l) ≤ length entry → s ≡ filled (squaresOf l h) entry → n ≤ length s
-measured-fits l h entry e room is = rw (is, filled-length (squaresOf l h) entry, e) room
+module _ (ratio : Float) (l : List Float) (h : Model) (entry : List Float) {n : ℕ} {s : List Float} (count : n ≡ length (marksOf l)) (room : length (marksOf l) ≤ length entry)
+    (is : s ≡ filled (squaresOf ratio l h) entry)
+  where
+    pub measured-fits : n ≤ length s
+    measured-fits = rw (is, filled-length (squaresOf ratio l h) entry, count) room
 
-pub measured-front : (l : List Float) (h : Model) (entry : List Float) {n : ℕ} {s : List Float} → n ≡ length (marksOf l) → length (marksOf l) ≤ length entry → s ≡ filled (squaresOf l h) entry → n ≡ length (take n s)
-measured-front l h entry {n} {s} e room is = sym (length-take-le n s (measured-fits l h entry e room is))
+    pub measured-front : n ≡ length (take n s)
+    measured-front = sym (length-take-le n s measured-fits)
 
-pub measured-roots : (l : List Float) (h : Model) (entry : List Float) {n : ℕ} {s : List Float} → n ≡ length (marksOf l) → length (marksOf l) ≤ length entry → s ≡ filled (squaresOf l h) entry
-    → map rootOf (take n s) ≡ distancesOf l h
-measured-roots l h entry {n} {s} e room is =
-    let long = squares-count l h in
-    rw (e ∙ sym long, is, filled-front (squaresOf l h) entry (rw long room)) (roots-of-squares l h)
+    pub measured-roots : map rootOf (take n s) ≡ distancesOf ratio l h
+    measured-roots =
+        let long = squares-count ratio l h in
+        rw (count ∙ sym long, is, filled-front (squaresOf ratio l h) entry (rw long room)) (roots-of-squares ratio l h)
 
 -- how many are found beyond, and that these are few
 pub found-beyond : (counting : Bool) (l : List Float) (h : Model) (entry : List Float) {far : ℕ} → length (marksOf l) ≤ length entry → far ≡ beyondFound counting l h entry → far ≡ ifCounted counting (beyondOf l h)
@@ -63,16 +65,17 @@ beyond-small true l h short e = let k = count l in let m = count-most (beyondUnd
 beyond-small false l h short e = omega (arith, e)
 
 -- nothing is measured or written where there are over 2,000 marks
-pub over-many : (l : List Float) (h : Model) (thresh : Float) (squares : List Float) (indices : List ℕ) {n : ℕ} → n ≡ length (marksOf l) → 2000 ≤ length squares → length squares < n
-    → (0 ≡ indexCount thresh (distancesOf l h) indices) × ((squares ≡ filled (squaresOf l h) squares) × (indices ≡ indexed thresh (distancesOf l h) indices))
-over-many l h thresh squares indices e room many =
-    let long = squares-count l h in
-    let none = too-many thresh (distancesOf l h) indices (rw (distances-count l h, ← e) (omega (arith, room, many))) in
-    (none .0, (filled-not (squaresOf l h) squares (rw (long, ← e) many), none .1))
+pub over-many : (ratio : Float) (l : List Float) (h : Model) (thresh : Float) (squares : List Float) (indices : List ℕ) {n : ℕ} → n ≡ length (marksOf l) → 2000 ≤ length squares → length squares < n
+    → (0 ≡ indexCount thresh (distancesOf ratio l h) indices) × ((squares ≡ filled (squaresOf ratio l h) squares) × (indices ≡ indexed thresh (distancesOf ratio l h) indices))
+over-many ratio l h thresh squares indices e room many =
+    let long = squares-count ratio l h in
+    let none = too-many thresh (distancesOf ratio l h) indices (rw (distances-count ratio l h, ← e) (omega (arith, room, many))) in
+    (none .0, (filled-not (squaresOf ratio l h) squares (rw (long, ← e) many), none .1))
 
 -- of one measuring after another the last is left
-pub measured-twice : (l entry : List Float) (a b : Model) {s : List Float} → s ≡ filled (squaresOf l a) entry → filled (squaresOf l b) s ≡ filled (squaresOf l b) entry
-measured-twice l entry a b e = ap (filled (squaresOf l b)) e ∙ filled-again (squaresOf l a) (squaresOf l b) entry (squares-count l a ∙ sym (squares-count l b))
+pub measured-twice : (ratio : Float) (l entry : List Float) (a b : Model) {s : List Float} → s ≡ filled (squaresOf ratio l a) entry → filled (squaresOf ratio l b) s ≡ filled (squaresOf ratio l b) entry
+measured-twice ratio l entry a b e =
+    ap (filled (squaresOf ratio l b)) e ∙ filled-again (squaresOf ratio l a) (squaresOf ratio l b) entry (squares-count ratio l a ∙ sym (squares-count ratio l b))
 
 -- ---- what a scored trial's standing is
 
@@ -91,11 +94,11 @@ modelIn d (scored s) = s .model
 
 module _ (o : RansacOptions) (l : List Float) (stops : List ℕ) (d : Model) (entry : List Float) where
   abbrev ds : Model → List Float
-  ds = distancesOf l
+  ds = distancesOf (o .ratio) l
 
   -- by whether the fit has too few marks
   by-few : (b : Bool) (k : ℕ) (fit m : Model) → scoredIn (cond b (few k) (scored (standing (ruleOf o) ds stops m))) ≡ true
-      → filled (squaresOf l (cond b fit m)) entry ≡ filled (squaresOf l (modelIn d (cond b (few k) (scored (standing (ruleOf o) ds stops m))))) entry
+      → filled (squaresOf (o .ratio) l (cond b fit m)) entry ≡ filled (squaresOf (o .ratio) l (modelIn d (cond b (few k) (scored (standing (ruleOf o) ds stops m))))) entry
   unfolding scoredIn modelIn standing
   by-few true k fit m h = clash h refl
   by-few false k fit m h = refl
@@ -105,12 +108,12 @@ module _ (o : RansacOptions) (l : List Float) (stops : List ℕ) (d : Model) (en
   cond-same false a = refl
 
   after-stands : (t : Trial Model) → scoredIn (judgeTrial (ruleOf o) ds stops t) ≡ true
-      → squaresAfter o l stops t entry ≡ filled (squaresOf l (modelIn d (judgeTrial (ruleOf o) ds stops t))) entry
+      → squaresAfter o l stops t entry ≡ filled (squaresOf (o .ratio) l (modelIn d (judgeTrial (ruleOf o) ds stops t))) entry
   unfolding judgeTrial squaresAfter judgedBy ruleOf scoredIn
   after-stands unfitted h = clash h refl
   after-stands (fitted fit) h =
       let b = ltb (countUnder (ruleOf o) ds stops fit) (o .«min_inliers») in
-      ap (λ m. filled (squaresOf l m) entry) (sym (cond-same b fit)) ∙ by-few b _ fit fit h
+      ap (λ m. filled (squaresOf (o .ratio) l m) entry) (sym (cond-same b fit)) ∙ by-few b _ fit fit h
   after-stands (refitted fit refit) h = by-few (ltb (countUnder (ruleOf o) ds stops fit) (o .«min_inliers»)) _ fit (standsOf (ruleOf o) ds stops fit refit) h
 
 -- ---- what a scored trial leaves
@@ -121,16 +124,16 @@ by-number zero w t e = (refl, e)
 by-number (suc k) w t e = absurd (let z : _≡_ {A = ℕ} 0 1 = cc in omega (arith, z))
 
 -- The run is of the call's marks, the count is the model's own, and the front of the list has its squares.
-pub record Leaves (thresh : Float) (n : ℕ) (l : List Float) (m : Model) (count : ℕ) (s : List Float) : Type 0 where
+pub record Leaves (o : RansacOptions) (n : ℕ) (l : List Float) (m : Model) (count : ℕ) (s : List Float) : Type 0 where
   pub fits : n ≤ length s
-  pub counted : count ≡ countIn thresh (distancesOf l m)
-  pub roots : map rootOf (take n s) ≡ distancesOf l m
+  pub counted : count ≡ countIn (o .thresh) (distancesOf (o .ratio) l m)
+  pub roots : map rootOf (take n s) ≡ distancesOf (o .ratio) l m
 
 module _ (o : RansacOptions) (n : ℕ) (c : Call) (entry : List Float) where
   abbrev failed : ℕ
   failed = firstFailed (testedTests n c)
 
-  pub scored-leaves : (t : Standing Model) {s : List Float} → scored t ≡ judgeTested o n c → s ≡ squaresLeft o n c entry → 2000 ≤ length s → Leaves (o .thresh) n (c .marks) (t .model) (t .count) s
+  pub scored-leaves : (t : Standing Model) {s : List Float} → scored t ≡ judgeTested o n c → s ≡ squaresLeft o n c entry → 2000 ≤ length s → Leaves o n (c .marks) (t .model) (t .count) s
   unfolding judgeTested byTests squaresLeft worth ruleOf testedTests testedMarks scoredIn modelIn
   scored-leaves t {s} h e room =
       let found = by-number failed (worth o c) t (sym h) in
@@ -138,23 +141,23 @@ module _ (o : RansacOptions) (n : ℕ) (c : Call) (entry : List Float) where
       let is = sym (found .1) in
       let run = run-passed n (c .marks) _ p in
       let k = count (c .marks) in
-      let stays : s ≡ filled (squaresOf (c .marks) (t .model)) entry =
+      let stays : s ≡ filled (squaresOf (o .ratio) (c .marks) (t .model)) entry =
       e
       ∙ sym (done (squaresAfter o (c .marks) (c .stops) (trialOf (c .bytes)) entry) entry (sym p))
       ∙ after-stands o (c .marks) (c .stops) (t .model) entry (trialOf (c .bytes)) (ap scoredIn (sym is))
-      ∙ ap (λ j. filled (squaresOf (c .marks) (modelIn (t .model) j)) entry) (sym is) in
+      ∙ ap (λ j. filled (squaresOf (o .ratio) (c .marks) (modelIn (t .model) j)) entry) (sym is) in
       record {
         fits = omega (arith, run .0, run .1, k, room);
-        counted = judge-own (ruleOf o) (distancesOf (c .marks)) (c .stops) (trialOf (c .bytes)) t (sym is) .0;
-        roots = measured-roots (c .marks) (t .model) entry (run .0) (let long = ap length stays ∙ filled-length (squaresOf (c .marks) (t .model)) entry in omega (arith, run .1, k, room, long)) stays;
+        counted = judge-own (ruleOf o) (distancesOf (o .ratio) (c .marks)) (c .stops) (trialOf (c .bytes)) t (sym is) .0;
+        roots = measured-roots (o .ratio) (c .marks) (t .model) entry (run .0) (let long = ap length stays ∙ filled-length (squaresOf (o .ratio) (c .marks) (t .model)) entry in omega (arith, run .1, k, room, long)) stays;
       }
 
 -- the list keeps its length
 after-length : (o : RansacOptions) (l : List Float) (stops : List ℕ) (t : Trial Model) (entry : List Float) → length (squaresAfter o l stops t entry) ≡ length entry
 unfolding squaresAfter
 after-length o l stops unfitted entry = refl
-after-length o l stops (fitted fit) entry = filled-length (squaresOf l fit) entry
-after-length o l stops (refitted fit refit) entry = filled-length (squaresOf l _) entry
+after-length o l stops (fitted fit) entry = filled-length (squaresOf (o .ratio) l fit) entry
+after-length o l stops (refitted fit refit) entry = filled-length (squaresOf (o .ratio) l _) entry
 
 pub left-room : (o : RansacOptions) (n : ℕ) (c : Call) (entry : List Float) → length entry ≡ 2000 → {left : List Float} → left ≡ squaresLeft o n c entry → 2000 ≤ length left
 unfolding squaresLeft ifPassed
@@ -185,7 +188,7 @@ module _ (o : RansacOptions) (n : ℕ) (c : Call) {q : Finding} (found : viewFin
     support-is = ap (viewFinding (rmsUnder o (c .marks))) (sym is) ∙ found
 
     module _ (entry : List Float) {left : List Float} (leaves : left ≡ squaresLeft o n c entry) (room : 2000 ≤ length left) where
-      pub support-leaves : Leaves (o .thresh) n (c .marks) (s .model) (s .count) left
+      pub support-leaves : Leaves o n (c .marks) (s .model) (s .count) left
       support-leaves = scored-leaves o n c entry _ support-is leaves room
 
       pub support-scored : scored (supportWith (o .thresh) (take n left) s) ≡ judgeTested o n c

@@ -91,7 +91,7 @@ passed-short n l stops first h = run-passed n l _ (sym first ∙ h) .1
 
 module _ (o : RansacOptions) (l : List Float) (stops : List ℕ) where
   abbrev ds : Model → List Float
-  ds = distancesOf l
+  ds = distancesOf (o .ratio) l
 
   pub stop-none : {k : ℕ} → k ≡ 0 → o .«max_iters» ≡ stopAt (ruleOf o) ds stops k
   unfolding stopAt ruleOf
@@ -108,13 +108,13 @@ module _ (o : RansacOptions) (l : List Float) (stops : List ℕ) where
   pub count-small : length l ≤ 8000 → (m : Model) {k : ℕ} → k ≡ countUnder (ruleOf o) ds stops m → k ≤ 2000
   unfolding countUnder ruleOf
   count-small h m e =
-      let a = count-within (o .thresh) (distancesOf l m) in
-      let b = distances-count l m in
+      let a = count-within (o .thresh) (distancesOf (o .ratio) l m) in
+      let b = distances-count (o .ratio) l m in
       let c = count l in
       omega (arith, a, b, c, e, h)
 
   -- the count as score's walk has it
-  pub counted : (m : Model) {k : ℕ} → k ≡ countIn (o .thresh) (distancesOf l m) → k ≡ countUnder (ruleOf o) ds stops m
+  pub counted : (m : Model) {k : ℕ} → k ≡ countIn (o .thresh) (distancesOf (o .ratio) l m) → k ≡ countUnder (ruleOf o) ds stops m
   unfolding countUnder ruleOf
   counted m e = e
 
@@ -151,38 +151,38 @@ module _ (o : RansacOptions) (l : List Float) (stops : List ℕ) where
       unfolding judgedBy ruleOf
       enough-judged stands h = rw (← is, le-ltb k (o .«min_inliers») h)
 
-      pub fit-few : k < o .«min_inliers» → {s : List Float} → s ≡ filled (squaresOf l fit) entry → Came counting (Few k) far s (fitted fit) entry
+      pub fit-few : k < o .«min_inliers» → {s : List Float} → s ≡ filled (squaresOf (o .ratio) l fit) entry → Came counting (Few k) far s (fitted fit) entry
       unfolding judgeTrial squaresAfter beyondFit
       fit-few h e = (few-judged fit h, (beyond, e))
 
-      pub fit-scored : o .«min_inliers» ≤ k → {s : List Float} → s ≡ filled (squaresOf l fit) entry → (r : Finding) → viewFinding (rmsUnder o l) r ≡ scored (standing (ruleOf o) ds stops fit) → Came counting r far s (fitted fit) entry
+      pub fit-scored : o .«min_inliers» ≤ k → {s : List Float} → s ≡ filled (squaresOf (o .ratio) l fit) entry → (r : Finding) → viewFinding (rmsUnder o l) r ≡ scored (standing (ruleOf o) ds stops fit) → Came counting r far s (fitted fit) entry
       unfolding judgeTrial squaresAfter beyondFit
       fit-scored h e r v = (v ∙ enough-judged fit h, (beyond, e))
 
       module _ (refit : Model) where
-        pub pair-few : k < o .«min_inliers» → {s : List Float} → s ≡ filled (squaresOf l fit) entry → Came counting (Few k) far s (refitted fit refit) entry
+        pub pair-few : k < o .«min_inliers» → {s : List Float} → s ≡ filled (squaresOf (o .ratio) l fit) entry → Came counting (Few k) far s (refitted fit refit) entry
         unfolding judgeTrial squaresAfter beyondFit
         pair-few h e = (few-judged (standsOf (ruleOf o) ds stops fit refit) h, (beyond, e ∙ rw (← is, lt-ltb k (o .«min_inliers») h)))
 
         -- scored, by the one that stands
         module _ (enough : o .«min_inliers» ≤ k) where
-          pair-scored : {m : Model} → m ≡ standsOf (ruleOf o) ds stops fit refit → {s : List Float} → s ≡ filled (squaresOf l m) entry → (r : Finding)
+          pair-scored : {m : Model} → m ≡ standsOf (ruleOf o) ds stops fit refit → {s : List Float} → s ≡ filled (squaresOf (o .ratio) l m) entry → (r : Finding)
               → viewFinding (rmsUnder o l) r ≡ scored (standing (ruleOf o) ds stops m) → Came counting r far s (refitted fit refit) entry
           unfolding judgeTrial squaresAfter beyondFit
           pair-scored {m} w e r v =
-              (v ∙ enough-judged m enough ∙ ap (judgedBy (ruleOf o) ds stops fit) w, (beyond, e ∙ ap (λ x. filled (squaresOf l x) entry) w ∙ rw (← is, le-ltb k (o .«min_inliers») enough)))
+              (v ∙ enough-judged m enough ∙ ap (judgedBy (ruleOf o) ds stops fit) w, (beyond, e ∙ ap (λ x. filled (squaresOf (o .ratio) l x) entry) w ∙ rw (← is, le-ltb k (o .«min_inliers») enough)))
 
-          pub refit-scored : {again : ℕ} → again ≡ countUnder (ruleOf o) ds stops refit → o .refit ≡ true → o .«min_inliers» ≤ again → {s : List Float} → s ≡ filled (squaresOf l refit) entry → (r : Finding)
+          pub refit-scored : {again : ℕ} → again ≡ countUnder (ruleOf o) ds stops refit → o .refit ≡ true → o .«min_inliers» ≤ again → {s : List Float} → s ≡ filled (squaresOf (o .ratio) l refit) entry → (r : Finding)
               → viewFinding (rmsUnder o l) r ≡ scored (standing (ruleOf o) ds stops refit) → Came counting r far s (refitted fit refit) entry
           unfolding ruleOf
           refit-scored e w h = pair-scored (stands-refit (ruleOf o) fit refit e w h)
 
-          pub refit-low : {again : ℕ} → again ≡ countUnder (ruleOf o) ds stops refit → o .refit ≡ true → again < o .«min_inliers» → {s : List Float} → s ≡ filled (squaresOf l fit) entry → (r : Finding)
+          pub refit-low : {again : ℕ} → again ≡ countUnder (ruleOf o) ds stops refit → o .refit ≡ true → again < o .«min_inliers» → {s : List Float} → s ≡ filled (squaresOf (o .ratio) l fit) entry → (r : Finding)
               → viewFinding (rmsUnder o l) r ≡ scored (standing (ruleOf o) ds stops fit) → Came counting r far s (refitted fit refit) entry
           unfolding ruleOf
           refit-low e w h = pair-scored (stands-fit (ruleOf o) fit refit e w h)
 
-          pub refit-unasked : o .refit ≡ false → {s : List Float} → s ≡ filled (squaresOf l fit) entry → (r : Finding)
+          pub refit-unasked : o .refit ≡ false → {s : List Float} → s ≡ filled (squaresOf (o .ratio) l fit) entry → (r : Finding)
               → viewFinding (rmsUnder o l) r ≡ scored (standing (ruleOf o) ds stops fit) → Came counting r far s (refitted fit refit) entry
           unfolding ruleOf
           refit-unasked w = pair-scored (stands-unasked (ruleOf o) fit refit w)
@@ -239,7 +239,7 @@ module _ (counting : Bool) (o : RansacOptions) (n : ℕ) (c : Call) {k : ℕ} (f
     record-judged {t} h r far s came =
         let d = decided-gives (firstFailed (trialRecord (c .bytes) ∷ [])) h in
         let none = sym (d .0) ∙ rest in (
-          came .0 ∙ ap (judgeTrial (ruleOf o) (distancesOf (c .marks)) (c .stops)) (d .1) ∙ done (worth o c) (turned-down (firstFailed (testedTests n c))) none,
+          came .0 ∙ ap (judgeTrial (ruleOf o) (distancesOf (o .ratio) (c .marks)) (c .stops)) (d .1) ∙ done (worth o c) (turned-down (firstFailed (testedTests n c))) none,
           (
             came .1 .0 ∙ ap (ifCounted counting) (ap (beyondFit (beyondOf (c .marks))) (d .1) ∙ done (beyondFit (beyondOf (c .marks)) (trialOf (c .bytes))) 0 none),
             came .1 .1 ∙ ap (λ x. squaresAfter o (c .marks) (c .stops) x entry) (d .1) ∙ done (squaresAfter o (c .marks) (c .stops) (trialOf (c .bytes)) entry) entry none,

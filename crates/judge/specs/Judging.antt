@@ -57,7 +57,7 @@ testedTests n c = testedMarks n (c .marks) (c .stops) ++ (trialRecord (c .bytes)
 
 -- what the record is worth over the call's marks and stops
 unfoldable pub worth : RansacOptions → Call → Judged Model
-worth o c = judgeTrial (ruleOf o) (distancesOf (c .marks)) (c .stops) (trialOf (c .bytes))
+worth o c = judgeTrial (ruleOf o) (distancesOf (o .ratio) (c .marks)) (c .stops) (trialOf (c .bytes))
 
 unfoldable pub judgedBy : List Test → RansacOptions → Call → Judged Model
 judgedBy tests o c = ifPassed (firstFailed tests) (worth o c) (turned-down (firstFailed tests))
@@ -92,7 +92,7 @@ viewVerdict (Scored s) = Judged.scored (standingOf s)
 
 -- that of the marks under a model
 unfoldable pub rmsUnder : RansacOptions → List Float → Model → Float
-rmsUnder o l m = rmsIn (o .thresh) (distancesOf l m)
+rmsUnder o l m = rmsIn (o .thresh) (distancesOf (o .ratio) l m)
 
 -- A finding leaves the root mean square out: it is that of the model that stands.
 unfoldable pub viewFinding : (Model → Float) → Finding → Judged Model
@@ -108,11 +108,11 @@ supportWith thresh squares s = record { model = s .model; count = s .count; rms 
 -- The lent list then has the squares of the model that stands at its front, or of the fit where that has too few marks.
 unfoldable pub squaresAfter : RansacOptions → (marks : List Float) → (stops : List ℕ) → Trial Model → List Float → List Float
 squaresAfter o l stops unfitted entry = entry
-squaresAfter o l stops (fitted fit) entry = filled (squaresOf l fit) entry
+squaresAfter o l stops (fitted fit) entry = filled (squaresOf (o .ratio) l fit) entry
 squaresAfter o l stops (refitted fit refit) entry =
-    let few = ltb (countUnder (ruleOf o) (distancesOf l) stops fit) (o .«min_inliers») in
-    let stands = standsOf (ruleOf o) (distancesOf l) stops fit refit in
-    filled (squaresOf l (cond few fit stands)) entry
+    let few = ltb (countUnder (ruleOf o) (distancesOf (o .ratio) l) stops fit) (o .«min_inliers») in
+    let stands = standsOf (ruleOf o) (distancesOf (o .ratio) l) stops fit refit in
+    filled (squaresOf (o .ratio) l (cond few fit stands)) entry
 
 -- a refused call leaves it
 unfoldable pub squaresLeft : RansacOptions → ℕ → Call → List Float → List Float

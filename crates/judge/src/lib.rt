@@ -89,7 +89,7 @@ fn check_call(n: usize, marks: &[f64], stops: &[u32]) -> u32
 
 // max_iters at count 0, else the entry of the count.
 fn stop_at(o: RansacOptions, marks: &[f64], stops: &[u32], count: usize) -> u32
-    ensures { λ r. ⌜ r ≡ stopAt (ruleOf o) (distancesOf (now (marks .entry))) (now (stops .entry)) count ⌝ }
+    ensures { λ r. ⌜ r ≡ stopAt (ruleOf o) (distancesOf (o .ratio) (now (marks .entry))) (now (stops .entry)) count ⌝ }
 {
     if count == 0 {
         return o.max_iters;
@@ -99,16 +99,22 @@ fn stop_at(o: RansacOptions, marks: &[f64], stops: &[u32], count: usize) -> u32
 
 // Measures a model, and counts the marks that are within the threshold under it and, if they are to be
 // counted, those beyond.
-fn count_under(h: Model, thresh: f64, marks: &[f64], squares: &mut [f64], counting: bool) -> Counted
+fn count_under(
+    o: RansacOptions,
+    h: Model,
+    marks: &[f64],
+    squares: &mut [f64],
+    counting: bool,
+) -> Counted
     requires { ⌜ length (now marks) ≤ 8000 ⌝ }
     requires { ⌜ 2000 ≤ length (now squares) ⌝ }
-    ensures { λ r. ⌜ r .within ≡ countIn thresh (distancesOf (now (marks .entry)) h) ⌝ }
+    ensures { λ r. ⌜ r .within ≡ countIn (o .thresh) (distancesOf (o .ratio) (now (marks .entry)) h) ⌝ }
     ensures { λ r. ⌜ r .beyond ≡ ifCounted counting (beyondOf (now (marks .entry)) h) ⌝ }
-    ensures { λ _. ⌜ now (squares .exit) ≡ filled (squaresOf (now (marks .entry)) h) (now (squares .entry)) ⌝ }
+    ensures { λ _. ⌜ now (squares .exit) ≡ filled (squaresOf (o .ratio) (now (marks .entry)) h) (now (squares .entry)) ⌝ }
 {
-    let beyond = measure::squared_residuals(h, marks, squares, counting);
+    let beyond = measure::squared_residuals(h, o.ratio, marks, squares, counting);
     let n = sheet::mark_count(marks);
-    let within = score::count_inliers(thresh, &squares[..n]);
+    let within = score::count_inliers(o.thresh, &squares[..n]);
     Counted {
         within,
         beyond: beyond as u32,
@@ -124,8 +130,8 @@ fn supported_by(
     stops: &[u32],
 ) -> Finding
     requires { ⌜ length (now marks) ≤ 8000 ⌝ }
-    requires { ⌜ count ≡ countUnder (ruleOf o) (distancesOf (now marks)) (now stops) stands ⌝ }
-    ensures { λ r. ⌜ viewFinding (rmsUnder o (now (marks .entry))) r ≡ scored (standing (ruleOf o) (distancesOf (now (marks .entry))) (now (stops .entry)) stands) ⌝ }
+    requires { ⌜ count ≡ countUnder (ruleOf o) (distancesOf (o .ratio) (now marks)) (now stops) stands ⌝ }
+    ensures { λ r. ⌜ viewFinding (rmsUnder o (now (marks .entry))) r ≡ scored (standing (ruleOf o) (distancesOf (o .ratio) (now (marks .entry))) (now (stops .entry)) stands) ⌝ }
 {
     let stop = stop_at(o, marks, stops, count);
     Finding::Scored(Support {
@@ -144,11 +150,11 @@ fn count_fit(
     counting: bool,
 ) -> Found
     requires { ⌜ length (now marks) ≤ 8000 ⌝ }
-    ensures { λ r. ⌜ viewFinding (rmsUnder o (now (marks .entry))) (r .finding) ≡ judgeTrial (ruleOf o) (distancesOf (now (marks .entry))) (now (stops .entry)) (fitted fit) ⌝ }
+    ensures { λ r. ⌜ viewFinding (rmsUnder o (now (marks .entry))) (r .finding) ≡ judgeTrial (ruleOf o) (distancesOf (o .ratio) (now (marks .entry))) (now (stops .entry)) (fitted fit) ⌝ }
     ensures { λ r. ⌜ r .beyond ≡ ifCounted counting (beyondFit (beyondOf (now (marks .entry))) (fitted fit)) ⌝ }
     ensures { λ _. ⌜ now (squares .exit) ≡ squaresAfter o (now (marks .entry)) (now (stops .entry)) (fitted fit) (now (squares .entry)) ⌝ }
 {
-    let c = count_under(fit, o.thresh, marks, squares, counting);
+    let c = count_under(o, fit, marks, squares, counting);
     let beyond = c.beyond;
     if c.within < o.min_inliers as usize {
         return Found {
@@ -174,13 +180,13 @@ fn count_refit(
     counting: bool,
 ) -> Found
     requires { ⌜ length (now marks) ≤ 8000 ⌝ }
-    ensures { λ r. ⌜ viewFinding (rmsUnder o (now (marks .entry))) (r .finding) ≡ judgeTrial (ruleOf o) (distancesOf (now (marks .entry))) (now (stops .entry)) (refitted (pair .fit) (pair .refit)) ⌝ }
+    ensures { λ r. ⌜ viewFinding (rmsUnder o (now (marks .entry))) (r .finding) ≡ judgeTrial (ruleOf o) (distancesOf (o .ratio) (now (marks .entry))) (now (stops .entry)) (refitted (pair .fit) (pair .refit)) ⌝ }
     ensures { λ r. ⌜ r .beyond ≡ ifCounted counting (beyondFit (beyondOf (now (marks .entry))) (refitted (pair .fit) (pair .refit))) ⌝ }
     ensures { λ _. ⌜ now (squares .exit) ≡ squaresAfter o (now (marks .entry)) (now (stops .entry)) (refitted (pair .fit) (pair .refit)) (now (squares .entry)) ⌝ }
 {
     let least = o.min_inliers as usize;
     let fit = pair.fit;
-    let first = count_under(fit, o.thresh, marks, squares, counting);
+    let first = count_under(o, fit, marks, squares, counting);
     let beyond = first.beyond;
     if first.within < least {
         return Found {
@@ -195,9 +201,9 @@ fn count_refit(
         };
     }
     let refit = pair.refit;
-    let again = count_under(refit, o.thresh, marks, squares, false);
+    let again = count_under(o, refit, marks, squares, false);
     if again.within < least {
-        measure::squared_residuals(fit, marks, squares, false);
+        measure::squared_residuals(fit, o.ratio, marks, squares, false);
         return Found {
             finding: supported_by(o, fit, first.within, marks, stops),
             beyond,
@@ -292,38 +298,38 @@ pub fn judge(o: RansacOptions, n: usize, bytes: &[u8], marks: &[f64], stops: &[u
 // Measures a model, and writes the places of the marks that are within the threshold under it, into
 // lists with room for all that a run may have.
 fn places_under(
+    o: RansacOptions,
     h: Model,
-    thresh: f64,
     marks: &[f64],
     squares: &mut [f64],
     indices: &mut [u32],
 ) -> usize
     requires { ⌜ 2000 ≤ length (now squares) ⌝ }
-    ensures { λ r. ⌜ r ≡ indexCount thresh (distancesOf (now (marks .entry)) h) (now (indices .entry)) ⌝ }
-    ensures { λ _. ⌜ now (squares .exit) ≡ filled (squaresOf (now (marks .entry)) h) (now (squares .entry)) ⌝ }
-    ensures { λ _. ⌜ now (indices .exit) ≡ indexed thresh (distancesOf (now (marks .entry)) h) (now (indices .entry)) ⌝ }
+    ensures { λ r. ⌜ r ≡ indexCount (o .thresh) (distancesOf (o .ratio) (now (marks .entry)) h) (now (indices .entry)) ⌝ }
+    ensures { λ _. ⌜ now (squares .exit) ≡ filled (squaresOf (o .ratio) (now (marks .entry)) h) (now (squares .entry)) ⌝ }
+    ensures { λ _. ⌜ now (indices .exit) ≡ indexed (o .thresh) (distancesOf (o .ratio) (now (marks .entry)) h) (now (indices .entry)) ⌝ }
 {
     let n = sheet::mark_count(marks);
     if squares.len() < n {
         return 0;
     }
-    measure::squared_residuals(h, marks, squares, false);
-    score::write_inliers(thresh, &squares[..n], indices)
+    measure::squared_residuals(h, o.ratio, marks, squares, false);
+    score::write_inliers(o.thresh, &squares[..n], indices)
 }
 
 // Writes the places of the marks within the threshold under a model to the front of `indices`,
 // ascending, and answers how many; nothing where it has not a place for each mark, or there are over
 // 2,000. The squares of the model are then at the front of `squares`.
 pub fn write_inliers(
+    o: RansacOptions,
     h: Model,
-    thresh: f64,
     marks: &[f64],
     squares: &mut [f64; 2000],
     indices: &mut [u32],
 ) -> usize
-    ensures { λ r. ⌜ r ≡ indexCount thresh (distancesOf (now (marks .entry)) h) (now (indices .entry)) ⌝ }
-    ensures { λ _. ⌜ now (squares .exit) ≡ filled (squaresOf (now (marks .entry)) h) (now (squares .entry)) ⌝ }
-    ensures { λ _. ⌜ now (indices .exit) ≡ indexed thresh (distancesOf (now (marks .entry)) h) (now (indices .entry)) ⌝ }
+    ensures { λ r. ⌜ r ≡ indexCount (o .thresh) (distancesOf (o .ratio) (now (marks .entry)) h) (now (indices .entry)) ⌝ }
+    ensures { λ _. ⌜ now (squares .exit) ≡ filled (squaresOf (o .ratio) (now (marks .entry)) h) (now (squares .entry)) ⌝ }
+    ensures { λ _. ⌜ now (indices .exit) ≡ indexed (o .thresh) (distancesOf (o .ratio) (now (marks .entry)) h) (now (indices .entry)) ⌝ }
 {
-    places_under(h, thresh, marks, squares, indices)
+    places_under(o, h, marks, squares, indices)
 }

@@ -6,14 +6,14 @@ use mathlib.Core.List.{List, [], _∷_, map}
 use Prim.Native.Nat.{ℕ, _+_, _≤_, _<_}
 use borrow.Author.Tests.{lt-ltb, le-ltb}
 use lib.ListN.{length, getD, set, length-map, List·getD-map}
-use lib.Ieee.{Float, ofBits, lt}
+use lib.Ieee.{Float, ofBits}
 use Rattle.rule.specs.Lists.{filled}
 use Rattle.rule.proofs.Lists.{count-asked, Counted, counted-none, counted-next, counted-past, counted-all, Stored, stored-none, stored-no-room, stored-same, stored-more, stored-all}
 use Rattle.root.specs.Root.{rootOf}
-use Rattle.numbers.specs.Constants.{zero′, infinity}
-use Rattle.sheet.specs.Marks.{marksOf, markAt, noMark, pointOf, squaredApart}
+use Rattle.numbers.specs.Constants.{infinity}
+use Rattle.sheet.specs.Marks.{marksOf, markAt, noMark, pointOf}
 use Rattle.numbers.specs.Measure.{beyond, distance, asDistance, ifCounted}
-use Rattle.sheet.specs.Distance.{projectionOf, measureOf, beyondUnder, distanceOf}
+use Rattle.sheet.specs.Distance.{projectionOf, beyondUnder, squaredResidual, measureOf, distanceOf}
 use Rattle.sheet.specs.declared.marks.Mark.{Mark}
 use Rattle.sheet.specs.declared.marks.Side.the-variants.{Sheet, Pixel}
 use Rattle.sheet.specs.declared.model.Model.{Model}
@@ -21,41 +21,41 @@ use Rattle.measure.specs.Distances.{distancesOf, beyondOf, squaredOf, sq
 
 -- ---- one for each mark
 
-module _ (l : List Float) (h : Model) where
-  pub squares-count : length (squaresOf l h) ≡ length (marksOf l)
+module _ (ratio : Float) (l : List Float) (h : Model) where
+  pub squares-count : length (squaresOf ratio l h) ≡ length (marksOf l)
   unfolding squaresOf
-  squares-count = length-map (marksOf l) (squaredOf h)
+  squares-count = length-map (marksOf l) (squaredOf ratio h)
 
-  pub distances-count : length (distancesOf l h) ≡ length (marksOf l)
+  pub distances-count : length (distancesOf ratio l h) ≡ length (marksOf l)
   unfolding distancesOf
-  distances-count = length-map (marksOf l) (distanceOf h)
+  distances-count = length-map (marksOf l) (distanceOf ratio h)
 
-  pub distance-at : (i : ℕ) → getD (distancesOf l h) i (distanceOf h noMark) ≡ distanceOf h (markAt l i)
+  pub distance-at : (i : ℕ) → getD (distancesOf ratio l h) i (distanceOf ratio h noMark) ≡ distanceOf ratio h (markAt l i)
   unfolding distancesOf markAt
-  distance-at i = List·getD-map (distanceOf h) (marksOf l) i noMark
+  distance-at i = List·getD-map (distanceOf ratio h) (marksOf l) i noMark
 
-  pub square-at : (i : ℕ) → squaredOf h (markAt l i) ≡ getD (squaresOf l h) i (squaredOf h noMark)
+  pub square-at : (i : ℕ) → squaredOf ratio h (markAt l i) ≡ getD (squaresOf ratio l h) i (squaredOf ratio h noMark)
   unfolding squaresOf markAt
-  square-at i = sym (List·getD-map (squaredOf h) (marksOf l) i noMark)
+  square-at i = sym (List·getD-map (squaredOf ratio h) (marksOf l) i noMark)
 
 -- ---- the walk over the marks: the squares that are stored up to place i, and how many of those marks are counted as beyond
 
-module _ (counting : Bool) (l : List Float) (h : Model) (entry : List Float) where
+module _ (counting : Bool) (ratio : Float) (l : List Float) (h : Model) (entry : List Float) where
   abbrev far : Mark → Bool
   far m = counting && beyondUnder h m
 
   pub record Measured (i found : ℕ) (s : List Float) : Type 0 where
-    pub stored : Stored (squaresOf l h) entry i s
+    pub stored : Stored (squaresOf ratio l h) entry i s
     pub counted : Counted far (marksOf l) noMark found i
 
   pub measured-none : Measured 0 0 entry
   measured-none = record { stored = stored-none _ _; counted = counted-none _ _ _ }
 
   module _ {n : ℕ} (count : n ≡ length (marksOf l)) where
-    many : n ≡ length (squaresOf l h)
-    many = count ∙ sym (squares-count l h)
+    many : n ≡ length (squaresOf ratio l h)
+    many = count ∙ sym (squares-count ratio l h)
 
-    pub no-room : length entry < n → (0 ≡ beyondFound counting l h entry) × (entry ≡ filled (squaresOf l h) entry)
+    pub no-room : length entry < n → (0 ≡ beyondFound counting l h entry) × (entry ≡ filled (squaresOf ratio l h) entry)
     unfolding beyondFound ifCounted
     no-room short = (rw (← count, lt-ltb (length entry) n short) (go counting), stored-no-room _ _ many short)
       where
@@ -67,9 +67,9 @@ module _ (counting : Bool) (l : List Float) (h : Model) (entry : List Float) whe
       pub measured-same : {i found : ℕ} {s : List Float} → i ≤ n → Measured i found s → length s ≡ length entry
       measured-same g k = stored-same _ _ many room g (k .stored)
 
-      module _ {i found : ℕ} {q : Float} {s : List Float} {m : Mark} (inside : i < n) (at : m ≡ markAt l i) (square : q ≡ squaredOf h m) (k : Measured i found s) where
-        one-stored : Stored (squaresOf l h) entry (i + 1) (set s i q)
-        one-stored = stored-more _ _ many room (squaredOf h noMark) inside (square ∙ ap (squaredOf h) at ∙ square-at l h i) (k .stored)
+      module _ {i found : ℕ} {q : Float} {s : List Float} {m : Mark} (inside : i < n) (at : m ≡ markAt l i) (square : q ≡ squaredOf ratio h m) (k : Measured i found s) where
+        one-stored : Stored (squaresOf ratio l h) entry (i + 1) (set s i q)
+        one-stored = stored-more _ _ many room (squaredOf ratio h noMark) inside (square ∙ ap (squaredOf ratio h) at ∙ square-at ratio l h i) (k .stored)
 
         pub measured-next : {ahead : Bool} {r : ℕ} → counting ≡ true → ahead ≡ not (beyondUnder h m) → (r ≡ cond ahead 0 1) × (r ≤ 1) → Measured (i + 1) (found + r) (set s i q)
         unfolding markAt
@@ -84,7 +84,7 @@ module _ (counting : Bool) (l : List Float) (h : Model) (entry : List Float) whe
         pub measured-past : counting ≡ false → Measured (i + 1) found (set s i q)
         measured-past e = record { stored = one-stored; counted = counted-past far (marksOf l) noMark (rw (← count) inside) (rw e) (k .counted) }
 
-      pub measured-all : {i found : ℕ} {s : List Float} → i ≤ n → n ≤ i → Measured i found s → (found ≡ beyondFound counting l h entry) × (s ≡ filled (squaresOf l h) entry)
+      pub measured-all : {i found : ℕ} {s : List Float} → i ≤ n → n ≤ i → Measured i found s → (found ≡ beyondFound counting l h entry) × (s ≡ filled (squaresOf ratio l h) entry)
       unfolding beyondFound beyondOf ifCounted
       measured-all {i} g e k =
           (counted-all _ _ _ (rw (← count) e) (k .counted) ∙ count-asked counting (beyondUnder h) (marksOf l) ∙ rw (← count, le-ltb (length entry) n room), stored-all _ _ many room g e (k .stored))
@@ -95,21 +95,22 @@ root-inf : rootOf infinity ≡ infinity
 unfolding ofBits rootOf
 root-inf = refl
 
-under-root : (b : Bool) (x : Float) → rootOf (cond b x infinity) ≡ asDistance (cond b (distance (rootOf x)) beyond)
+under-root : (b : Bool) (x : Float) → rootOf (cond b infinity x) ≡ asDistance (cond b beyond (distance (rootOf x)))
 unfolding asDistance
-under-root true x = refl
-under-root false x = root-inf
+under-root true x = root-inf
+under-root false x = refl
 
-root-of-square : (h : Model) (m : Mark) → rootOf (squaredOf h m) ≡ distanceOf h m
-unfolding squaredOf distanceOf measureOf
-root-of-square h m =
-    let to = projectionOf h (pointOf Sheet m) in
-    under-root (lt zero′ (to .s)) (squaredApart (to .at) (pointOf Pixel m))
+module _ (ratio : Float) (h : Model) where
+  root-of-square : (m : Mark) → rootOf (squaredOf ratio h m) ≡ distanceOf ratio h m
+  unfolding squaredOf distanceOf measureOf
+  root-of-square m =
+      let to = projectionOf h (pointOf Sheet m) in
+      under-root (beyondUnder h m) (squaredResidual ratio (to .at) (pointOf Pixel m))
 
-each : (h : Model) (ms : List Mark) → map rootOf (map (squaredOf h) ms) ≡ map (distanceOf h) ms
-each h [] = refl
-each h (m ∷ ms) = rw (root-of-square h m, each h ms)
+  each : (ms : List Mark) → map rootOf (map (squaredOf ratio h) ms) ≡ map (distanceOf ratio h) ms
+  each [] = refl
+  each (m ∷ ms) = rw (root-of-square m, each ms)
 
-pub roots-of-squares : (l : List Float) (h : Model) → map rootOf (squaresOf l h) ≡ distancesOf l h
+pub roots-of-squares : (ratio : Float) (l : List Float) (h : Model) → map rootOf (squaresOf ratio l h) ≡ distancesOf ratio l h
 unfolding squaresOf distancesOf
-roots-of-squares l h = each h (marksOf l)
+roots-of-squares ratio l h = each ratio h (marksOf l)

@@ -1,6 +1,6 @@
 -- What an accepted opening promises of the calls after it, with the same marks: `steps-as-trial`, that a call without test 6 (`step`) answers as one with it
 -- (`trial`) does, on every state; and `indices-written`, that the indices of a winner that is held are written where there is a place a mark. Assumes nothing.
-use mathlib.Core.Path.{_≡_, refl, sym, ap, ap₂}
+use mathlib.Core.Path.{_≡_, refl, sym, ap, ap₂, _∙_}
 use mathlib.Core.Bool.{false}
 use mathlib.Core.List.{List, [], _∷_}
 use Prim.Native.Nat.{ℕ, _≤_}
@@ -9,12 +9,13 @@ use lib.ListN.{length}
 use lib.Ieee.{Float}
 use Rattle.rule.specs.Answer.{gives}
 use Rattle.rule.specs.Order.{Test, firstFailed, room}
-use Rattle.rule.proofs.Order.{first-passed, decided-gives, decided-none}
+use Rattle.rule.proofs.Order.{first-passed, all-passed, none-failed, decided-gives, decided-none}
 use Rattle.sheet.specs.Marks.{marksOf, shape, point, few, marksTests}
 use Rattle.sheet.specs.declared.model.Model.{Model}
 use Rattle.book.specs.Score.{Judged}
 use Rattle.book.specs.Book.{Winner, held}
-use Rattle.records.specs.Options.{thresh, confidence, iters, optionsTests}
+use Rattle.records.specs.Options.{optionsTests}
+use Rattle.records.proofs.Formed.{options-above-0}
 use Rattle.records.specs.Trial.{trialRecord}
 use Rattle.records.specs.declared.options.RansacOptions.{RansacOptions}
 use Rattle.measure.specs.Distances.{distancesOf}
@@ -36,12 +37,10 @@ module _ (o : RansacOptions) (l : List Float) (table : List ℕ) where
     pub enough : few l .fails ≡ false
 
   fine : firstFailed (openingTests o l table) ≡ 0 → Fine
-  unfolding openingTests optionsTests marksTests thresh confidence iters shape point few
+  unfolding openingTests marksTests shape point few
   fine h =
-      let a = first-passed (thresh o) _ tt h in
-      let b = first-passed (confidence o) _ tt (a .1) in
-      let c = first-passed (iters o) _ tt (b .1) in
-      let d = first-passed (shape l) _ tt (c .1) in
+      let marks = all-passed (optionsTests o) _ (options-above-0 o) (none-failed (optionsTests o) _ h) ∙ h in
+      let d = first-passed (shape l) _ tt marks in
       let e = first-passed (point l) _ tt (d .1) in
       let f = first-passed (few l) _ tt (e .1) in
       record { shaped = d .0; points = e .0; enough = f .0 }
@@ -77,7 +76,7 @@ module _ (o : RansacOptions) (l : List Float) (table : List ℕ) where
     order-passes n places e h = rw (e, eq-eqb (length (marksOf l)) (length (marksOf l)) refl, accepted .shaped, accepted .points, accepted .enough, le-ltb places (length (marksOf l)) h)
 
     pub indices-written : (s : State) → s .n ≡ length (marksOf l) → (w : Winner Model) → viewBest (s .winner) ≡ held w → (entry : List ℕ) → length (marksOf l) ≤ length entry
-        → indicesAnswer (viewState s) l entry ≡ gives (length (indicesIn (s .options .thresh) (distancesOf l (w .model))))
+        → indicesAnswer (viewState s) l entry ≡ gives (length (indicesIn (s .options .thresh) (distancesOf (s .options .ratio) l (w .model))))
     unfolding indicesAnswer viewState bookOf winnerAnswer underAnswer
     indices-written s n w holds entry room-for =
-        rw holds (sym (decided-none (length (indicesIn (s .options .thresh) (distancesOf l (w .model)))) (order-passes (s .n) (length entry) n room-for)))
+        rw holds (sym (decided-none (length (indicesIn (s .options .thresh) (distancesOf (s .options .ratio) l (w .model)))) (order-passes (s .n) (length entry) n room-for)))

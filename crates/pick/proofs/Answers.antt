@@ -14,7 +14,6 @@ use Rattle.rule.specs.Order.{firstFailed, decided, room}
 use Rattle.rule.proofs.Tests.{neither}
 use Rattle.rule.proofs.Order.{first-passed, numbered, one-failed, all-passed, decided-none, decided-some, decided-gives, decided-refused, done, kept}
 use Rattle.rule.proofs.Lists.{places-count}
-use Rattle.numbers.specs.Constants.{zero′}
 use Rattle.sheet.specs.Marks.{marksOf, shape, point, few, marksTests}
 use Rattle.sheet.specs.declared.model.Model.{Model}
 use Rattle.sheet.proofs.Places.{count}
@@ -24,6 +23,7 @@ use Rattle.records.specs.Options.{optionsRecord, optionsOf, optionsAnswer, view
 use Rattle.records.specs.declared.options.RansacOptions.{RansacOptions}
 use Rattle.records.specs.declared.options.OptionsRead.{OptionsRead}
 use Rattle.records.specs.declared.options.OptionsRead.the-variants as Read
+use Rattle.records.specs.declared.options.RansacOptions.{RansacOptions}
 use Rattle.measure.specs.Distances.{distancesOf}
 use Rattle.score.specs.Places.{indicesIn, cramped, indexed, indexCount}
 use Rattle.measure.proofs.Squares.{distances-count}
@@ -75,9 +75,9 @@ module _ (bytes : List ℕ) (l : List Float) (table : List ℕ) {q : OptionsRead
 -- ---- the indices
 
 -- where the order passes there is a place for each mark, and there are at most 2,000
-roomy : (n : ℕ) (h : Model) (l : List Float) (entry : List ℕ) → firstFailed (marksOrder n l (length entry)) ≡ 0 → cramped (distancesOf l h) entry ≡ false
+roomy : (n : ℕ) (ratio : Float) (h : Model) (l : List Float) (entry : List ℕ) → firstFailed (marksOrder n l (length entry)) ≡ 0 → cramped (distancesOf ratio l h) entry ≡ false
 unfolding marksOrder marksTests ofRun shape point few room cramped
-roomy n h l entry e =
+roomy n ratio h l entry e =
     let a = first-passed (ofRun n l) _ tt e in
     let b = first-passed (shape l) _ tt (a .1) in
     let c = first-passed (point l) _ tt (b .1) in
@@ -85,27 +85,27 @@ roomy n h l entry e =
     let f = first-passed (room (length (marksOf l)) (length entry)) [] tt (d .1) in
     let short : length l ≤ 8000 = ltb-false 8000 (length l) (neither (not (eqb (length l % 4) 0)) (ltb 8000 (length l)) (b .0) .1) in
     let place : length (marksOf l) ≤ length entry = ltb-false (length entry) (length (marksOf l)) (f .0) in
-    let many = distances-count l h in
+    let many = distances-count ratio l h in
     let quarter = count l in
-    rw (le-ltb (length entry) (length (distancesOf l h)) (omega (arith, many, place)), le-ltb 2000 (length (distancesOf l h)) (omega (arith, many, quarter, short)))
+    rw (le-ltb (length entry) (length (distancesOf ratio l h)) (omega (arith, many, place)), le-ltb 2000 (length (distancesOf ratio l h)) (omega (arith, many, quarter, short)))
 
-module _ (n : ℕ) (thresh : Float) (h : Model) (l : List Float) (entry : List ℕ) {k : ℕ} (order : k ≡ firstFailed (marksOrder n l (length entry))) where
+module _ (n : ℕ) (o : RansacOptions) (h : Model) (l : List Float) (entry : List ℕ) {k : ℕ} (order : k ≡ firstFailed (marksOrder n l (length entry))) where
   abbrev ds : List Float
-  ds = distancesOf l h
+  ds = distancesOf (o .ratio) l h
 
   abbrev indices : List ℕ
-  indices = indicesIn thresh ds
+  indices = indicesIn (o .thresh) ds
 
-  pub under-refused : (k ≡ 0 → ⊥) → (viewIndexed (Refused k) ≡ underAnswer n thresh h l entry) × (entry ≡ underAfter n thresh h l entry)
+  pub under-refused : (k ≡ 0 → ⊥) → (viewIndexed (Refused k) ≡ underAnswer n o h l entry) × (entry ≡ underAfter n o h l entry)
   unfolding viewIndexed underAnswer underAfter
   under-refused e =
       (ap refused order ∙ decided-some (firstFailed (marksOrder n l (length entry))) (length indices) (λ z. e (order ∙ z)), kept (firstFailed (marksOrder n l (length entry))) (indices ++ drop (length indices) entry) entry (λ z. e (order ∙ z)))
 
-  pub under-written : {w : ℕ} {after : List ℕ} → k ≡ 0 → w ≡ indexCount thresh ds entry → after ≡ indexed thresh ds entry → (viewIndexed (Written w) ≡ underAnswer n thresh h l entry) × (after ≡ underAfter n thresh h l entry)
+  pub under-written : {w : ℕ} {after : List ℕ} → k ≡ 0 → w ≡ indexCount (o .thresh) ds entry → after ≡ indexed (o .thresh) ds entry → (viewIndexed (Written w) ≡ underAnswer n o h l entry) × (after ≡ underAfter n o h l entry)
   unfolding viewIndexed underAnswer underAfter indexCount indexed indicesIn countIn
   under-written e count is =
-      let wide = roomy n h l entry (sym order ∙ e) in
-      (ap gives (count ∙ rw wide (sym (places-count (close thresh) 0 ds))) ∙ decided-none (length indices) (sym e ∙ order), is ∙ rw wide (done (indices ++ drop (length indices) entry) entry (sym e ∙ order)))
+      let wide = roomy n (o .ratio) h l entry (sym order ∙ e) in
+      (ap gives (count ∙ rw wide (sym (places-count (close (o .thresh)) 0 ds))) ∙ decided-none (length indices) (sym e ∙ order), is ∙ rw wide (done (indices ++ drop (length indices) entry) entry (sym e ∙ order)))
 
 module _ (s : State) (l : List Float) (entry : List ℕ) where
   pub no-winner : s .winner ≡ Nothing → (viewIndexed (Refused NONE) ≡ indicesAnswer (viewState s) l entry) × (entry ≡ indicesAfter (viewState s) l entry)
@@ -113,7 +113,7 @@ module _ (s : State) (l : List Float) (entry : List ℕ) where
   no-winner e = (rw e, rw e)
 
   pub a-winner : {w : Winner} → s .winner ≡ Held w → {answer : Answer ℕ} {after : List ℕ}
-      → answer ≡ underAnswer (s .n) (s .options .thresh) (w .model) l entry → after ≡ underAfter (s .n) (s .options .thresh) (w .model) l entry
+      → answer ≡ underAnswer (s .n) (s .options) (w .model) l entry → after ≡ underAfter (s .n) (s .options) (w .model) l entry
       → (answer ≡ indicesAnswer (viewState s) l entry) × (after ≡ indicesAfter (viewState s) l entry)
   unfolding indicesAnswer indicesAfter viewState bookOf winnerAnswer winnerAfter viewBest viewWinner
   a-winner e p q = (rw e p, rw e q)

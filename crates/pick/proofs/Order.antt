@@ -6,19 +6,20 @@ use Prim.Native.Nat.{ℕ, suc, _+_, _%_, _≤_, _<_}
 use native.Mathlib.Numerals.{add-one}
 use native.Mathlib.Omega.{arith}
 use borrow.Author.Tests.{eq-eqb, ne-eqb, lt-ltb, le-ltb, ltb-false}
-use lib.Dec.{T, ltb, eqb}
+use lib.Dec.{ltb, eqb}
 use lib.ListN.{length}
 use lib.Ieee.{Float}
 use Rattle.rule.specs.Refusal.{SHAPE, FEW, STOPS, ROOM}
 use Rattle.rule.specs.Order.{Test, firstFailed, room}
 use Rattle.rule.proofs.Tests.{neither}
-use Rattle.rule.proofs.Order.{stops, passes, first-passed, numbered, one-failed, all-passed, too-small, large-enough, kept}
+use Rattle.rule.proofs.Order.{stops, passes, first-passed, one-failed, all-passed, none-failed, too-small, large-enough, kept}
 use Rattle.sheet.specs.Marks.{marksOf, shape, few, marksTests}
 use Rattle.sheet.specs.declared.model.Model.{Model}
 use Rattle.sheet.proofs.Places.{count}
 use Rattle.sheet.proofs.Refused.{marks-failed, marks-passed}
 use Rattle.book.specs.Score.{Judged, turned-down}
-use Rattle.records.specs.Options.{thresh, confidence, iters, optionsTests}
+use Rattle.records.specs.Options.{optionsTests}
+use Rattle.records.proofs.Formed.{options-above-0, few-iters}
 use Rattle.records.specs.Trial.{trialRecord}
 use Rattle.records.specs.declared.options.RansacOptions.{RansacOptions}
 use Rattle.judge.proofs.Ways.{run-passed, judged-alike, beyond-alike}
@@ -158,10 +159,6 @@ module _ (o : RansacOptions) (l : List Float) (table : List ℕ) where
   abbrev marks-on : List Test
   marks-on = marksTests l ++ (few l ∷ entries l table ∷ [])
 
-  options-above-0 : T (numbered (optionsTests o))
-  unfolding numbered optionsTests thresh confidence iters
-  options-above-0 = tt
-
   module _ {j : ℕ} (first : j ≡ firstFailed (optionsTests o)) where
     pub open-options : (j ≡ 0 → ⊥) → j ≡ firstFailed (openingTests o l table)
     unfolding openingTests
@@ -170,7 +167,7 @@ module _ (o : RansacOptions) (l : List Float) (table : List ℕ) where
     module _ (passed : j ≡ 0) where
       to-marks : firstFailed marks-on ≡ firstFailed (openingTests o l table)
       unfolding openingTests
-      to-marks = all-passed (optionsTests o) marks-on options-above-0 (sym first ∙ passed)
+      to-marks = all-passed (optionsTests o) marks-on (options-above-0 o) (sym first ∙ passed)
 
       module _ {i : ℕ} (second : i ≡ firstFailed (marksTests l)) where
         pub open-marks : (i ≡ 0 → ⊥) → i ≡ firstFailed (openingTests o l table)
@@ -195,12 +192,8 @@ module _ (o : RansacOptions) (l : List Float) (table : List ℕ) where
 
 -- an accepted opening's max_iters is at most 100,000
 pub opened-iters : (o : RansacOptions) (l : List Float) (table : List ℕ) → firstFailed (openingTests o l table) ≡ 0 → o .«max_iters» ≤ 100000
-unfolding openingTests optionsTests thresh confidence iters
-opened-iters o l table h =
-    let a = first-passed (thresh o) _ tt h in
-    let b = first-passed (confidence o) _ tt (a .1) in
-    let c = first-passed (iters o) _ tt (b .1) in
-    ltb-false 100000 (o .«max_iters») (neither (eqb (o .«max_iters») 0) (ltb 100000 (o .«max_iters»)) (c .0) .1)
+unfolding openingTests
+opened-iters o l table h = few-iters o (none-failed (optionsTests o) _ h)
 
 -- the marks of a call that passed are short
 pub call-short : (n : ℕ) (c : Call) → firstFailed (callTests n c) ≡ 0 → length (c .marks) ≤ 8000

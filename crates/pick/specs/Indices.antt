@@ -9,6 +9,7 @@ use Rattle.rule.specs.Order.{Test, firstFailed, decided, ifPassed, room}
 use Rattle.sheet.specs.Marks.{marksOf, few, marksTests}
 use Rattle.sheet.specs.declared.model.Model.{Model}
 use Rattle.book.specs.Book.{Held, none, held}
+use Rattle.records.specs.declared.options.RansacOptions.{RansacOptions}
 use Rattle.measure.specs.Distances.{distancesOf}
 use Rattle.score.specs.Places.{indicesIn}
 use Rattle.judge.specs.Judging.{ofRun}
@@ -22,29 +23,29 @@ marksOrder n marks places = ofRun n marks ∷ (marksTests marks ++ (few marks �
 
 -- ---- under a model: how many indices there are, and the lent list after the call
 
-unfoldable pub underAnswer : ℕ → Float → Model → List Float → List ℕ → Answer ℕ
-underAnswer n thresh h marks entry = decided (firstFailed (marksOrder n marks (length entry))) (length (indicesIn thresh (distancesOf marks h)))
+unfoldable pub underAnswer : ℕ → RansacOptions → Model → List Float → List ℕ → Answer ℕ
+underAnswer n o h marks entry = decided (firstFailed (marksOrder n marks (length entry))) (length (indicesIn (o .thresh) (distancesOf (o .ratio) marks h)))
 
-unfoldable pub underAfter : ℕ → Float → Model → List Float → List ℕ → List ℕ
-underAfter n thresh h marks entry =
-    let xs = indicesIn thresh (distancesOf marks h) in
+unfoldable pub underAfter : ℕ → RansacOptions → Model → List Float → List ℕ → List ℕ
+underAfter n o h marks entry =
+    let xs = indicesIn (o .thresh) (distancesOf (o .ratio) marks h) in
     ifPassed (firstFailed (marksOrder n marks (length entry))) (xs ++ drop (length xs) entry) entry
 
 -- ---- under the winner: 11 where there is none
 
-unfoldable pub winnerAnswer : ℕ → Float → Held Model → List Float → List ℕ → Answer ℕ
-winnerAnswer n thresh none marks entry = refused NONE
-winnerAnswer n thresh (held w) marks entry = underAnswer n thresh (w .model) marks entry
+unfoldable pub winnerAnswer : ℕ → RansacOptions → Held Model → List Float → List ℕ → Answer ℕ
+winnerAnswer n o none marks entry = refused NONE
+winnerAnswer n o (held w) marks entry = underAnswer n o (w .model) marks entry
 
-unfoldable pub winnerAfter : ℕ → Float → Held Model → List Float → List ℕ → List ℕ
-winnerAfter n thresh none marks entry = entry
-winnerAfter n thresh (held w) marks entry = underAfter n thresh (w .model) marks entry
+unfoldable pub winnerAfter : ℕ → RansacOptions → Held Model → List Float → List ℕ → List ℕ
+winnerAfter n o none marks entry = entry
+winnerAfter n o (held w) marks entry = underAfter n o (w .model) marks entry
 
 unfoldable pub indicesAnswer : Run → List Float → List ℕ → Answer ℕ
-indicesAnswer r marks entry = winnerAnswer (r .n) (r .options .thresh) (r .book .winner) marks entry
+indicesAnswer r marks entry = winnerAnswer (r .n) (r .options) (r .book .winner) marks entry
 
 unfoldable pub indicesAfter : Run → List Float → List ℕ → List ℕ
-indicesAfter r marks entry = winnerAfter (r .n) (r .options .thresh) (r .book .winner) marks entry
+indicesAfter r marks entry = winnerAfter (r .n) (r .options) (r .book .winner) marks entry
 
 unfoldable pub viewIndexed : Indexed → Answer ℕ
 viewIndexed (Written n) = gives n

@@ -1,4 +1,4 @@
--- Document 01, the opening: from the options type, and from a record, which alone can be 1. Tests 1 to 8.
+-- Document 01, the opening: from the options type, and from a record, which alone can be 1. Tests 1 to 4, 16 (document 02, order 3), and 5 to 8.
 use mathlib.Core.List.{List, [], _∷_, _++_}
 use Prim.Native.Nat.{ℕ}
 use lib.ListN.{length}

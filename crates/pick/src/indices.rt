@@ -36,8 +36,8 @@ fn check_order(n: usize, marks: &[f64], places: usize) -> u32
 
 // The indices under a winner that is held; refused with 5, 6, 7 or 9, in this order.
 fn indices_under(s: State, w: Winner, marks: &[f64], indices: &mut [u32]) -> Indexed
-    ensures { λ r. ⌜ viewIndexed r ≡ underAnswer (s .n) (s .options .thresh) (w .model) (now (marks .entry)) (now (indices .entry)) ⌝ }
-    ensures { λ _. ⌜ now (indices .exit) ≡ underAfter (s .n) (s .options .thresh) (w .model) (now (marks .entry)) (now (indices .entry)) ⌝ }
+    ensures { λ r. ⌜ viewIndexed r ≡ underAnswer (s .n) (s .options) (w .model) (now (marks .entry)) (now (indices .entry)) ⌝ }
+    ensures { λ _. ⌜ now (indices .exit) ≡ underAfter (s .n) (s .options) (w .model) (now (marks .entry)) (now (indices .entry)) ⌝ }
 {
     let refusal = check_order(s.n, marks, indices.len());
     if refusal != 0 {
@@ -46,7 +46,7 @@ fn indices_under(s: State, w: Winner, marks: &[f64], indices: &mut [u32]) -> Ind
     let options = s.options;
     let model = w.model;
     let mut squares = [0.0; 2000];
-    Indexed::Written(judge::write_inliers(model, options.thresh, marks, &mut squares, indices))
+    Indexed::Written(judge::write_inliers(options, model, marks, &mut squares, indices))
 }
 
 // Writes the places of the marks within the threshold under the winner to the front of `indices`,

@@ -1,4 +1,5 @@
-// The opening of a run (document 01, 'Options' and 'Refusals'): tests 1 to 8.
+// The opening of a run (document 01, 'Options' and 'Refusals', and document 02, order 3): tests 1 to 4,
+// 16, and 5 to 8.
 use crate::run_state::Best;
 use crate::run_state::State;
 use records::OptionsRead;
@@ -29,7 +30,7 @@ pub fn fresh_run(o: RansacOptions, n: usize) -> State
     }
 }
 
-// Opens a run; refused with 2 to 8, in this order.
+// Opens a run; refused with 2, 3, 4, 16, 5, 6, 7 or 8, in this order.
 pub fn open(o: RansacOptions, marks: &[f64], stops: &[u32]) -> Opened
     ensures { λ r. ⌜ viewOpened r ≡ openingAnswer o (now (marks .entry)) (now (stops .entry)) ⌝ }
 {

@@ -1,24 +1,26 @@
 -- Options and trials, one law for each way out of their readers. Assumes nothing.
-use mathlib.Core.Path.{_≡_, sym, ap, _∙_}
-use mathlib.Core.Bool.{Bool, true, false, not, _&&_, _||_}
+use mathlib.Core.Path.{_≡_, refl, sym, ap, _∙_}
+use mathlib.Core.Bool.{Bool, true, false, not, cond, _&&_, _||_}
+use mathlib.Core.Logic.{_⊎_, inl, inr, ⊎-elim}
 use mathlib.Core.List.{List, [], _∷_, map}
 use Prim.Native.Nat.{ℕ, zero, suc, _+_, _*_, _≤_, _<_}
 use native.Mathlib.Nat.{add-zero}
 use native.Mathlib.Omega.{arith}
-use borrow.Author.Tests.{not-true, not-false, lt-ltb, le-ltb, le-leb, lt-leb, eq-eqb, ne-eqb}
-use lib.Dec.{eqb, eqb→eq}
+use borrow.Author.Tests.{not-true, not-false, lt-ltb, le-ltb, le-leb, lt-leb, eq-eqb, ne-eqb, eqb-true, eqb-false, ltb-false}
+use lib.Dec.{T, eqb, ltb, eqb→eq}
 use lib.ListN.{length, getD, take, drop, length-drop}
 use lib.Seq.{length-take-le, getD-take, getD-drop}
 use lib.Ieee.{Float, binary64, ofBits, lt}
 use lib.Ieee.Fits.{and-l}
-use Rattle.rule.specs.Refusal.{RECORD, THRESH, CONFIDENCE, ITERS}
+use Rattle.rule.specs.Refusal.{RECORD, THRESH, CONFIDENCE, ITERS, RATIO}
 use Rattle.rule.specs.Answer.{refused, gives}
 use Rattle.rule.specs.Order.{firstFailed, decided}
 use Rattle.rule.proofs.Lists.{placesAt, one-by-one}
-use Rattle.rule.proofs.Tests.{and-false, is-test, failed, held}
-use Rattle.rule.proofs.Order.{stops, passes}
+use Rattle.rule.proofs.Tests.{and-false, neither, is-test, failed, held}
+use Rattle.rule.proofs.Order.{numbered, stops, passes, first-passed}
 use Rattle.numbers.specs.Constants.{zero′, one}
 use Rattle.numbers.specs.Finite.{isFinite, allFinite}
+use Rattle.numbers.specs.Ratio.{ratioAccepted, ratio}
 use Rattle.sheet.specs.Distance.{modelNumbers}
 use Rattle.sheet.specs.declared.model.Model.{Model}
 use Rattle.book.specs.Score.{unfitted, fitted, refitted}
@@ -26,12 +28,28 @@ use Rattle.fields.specs.Fields.{longsOf, byteAt, wordAt, longAt, doubleAt, zero
 use Rattle.fields.specs.Packing.{sizeOf, unpacked}
 use Rattle.fields.proofs.Reading.{longs-count}
 use Rattle.fields.proofs.Packing.{zero-longs}
-use Rattle.records.specs.Options.{optionsLayout, optionsSound, optionsFrom, optionsFormed, optionsRecord, optionsOf, optionsAnswer, thresh, confidence, iters, optionsTests}
+use Rattle.records.specs.Options.{layoutBy, fieldsIn, optionsSound, ratioFrom, optionsFrom, optionsFormed, optionsRecord, optionsOf, optionsAnswer, thresh, confidence, iters, optionsTests}
 use Rattle.records.specs.Trial.{trialLayout, modelFrom, marked, marksFormed, numbersFormed, trialSound, trialFrom, trialFormed, trialRecord, trialOf, trialAnswer}
 use Rattle.records.specs.declared.options.RansacOptions.{RansacOptions}
-use Rattle.records.proofs.Placed.{options-size, thresh-placed, confidence-placed, iters-placed, inliers-placed, refit-placed, filler-placed, trial-size, fit-placed, refit-mark-placed, trial-filler-placed, fit-bits-placed, refit-bits-placed}
+use Rattle.records.proofs.Placed.{short-size, options-size, thresh-placed, confidence-placed, iters-placed, inliers-placed, refit-placed, filler-placed, ratio-none, ratio-placed, trial-size, fit-placed, refit-mark-placed, trial-filler-placed, fit-bits-placed, refit-bits-placed}
 
 -- ---- an options record
+
+-- its length: 40 bytes, or 32
+pub short-sized : (n : ℕ) → n ≡ 32 → true ≡ eqb n (sizeOf (layoutBy n))
+unfolding layoutBy
+short-sized n h = rw (short-size, eq-eqb n 32 h, short-size, eq-eqb n 32 h)
+
+pub long-sized : (n : ℕ) → (n ≡ 32 → ⊥) → eqb n 40 ≡ eqb n (sizeOf (layoutBy n))
+unfolding layoutBy
+long-sized n h = rw (short-size, ne-eqb n 32 h, options-size)
+
+either-size : (n : ℕ) → eqb n (sizeOf (layoutBy n)) ≡ true → (n ≡ 32) ⊎ (n ≡ 40)
+either-size n h = go (eqb n 32) refl
+  where
+    go : (b : Bool) → eqb n 32 ≡ b → (n ≡ 32) ⊎ (n ≡ 40)
+    go true e = inl (eqb-true n 32 e)
+    go false e = inr (eqb-true n 40 (long-sized n (eqb-false n 32 e) ∙ h))
 
 module _ (l : List ℕ) where
   -- any part that is wrong turns it down
@@ -39,40 +57,60 @@ module _ (l : List ℕ) where
   unfolding optionsAnswer decided firstFailed optionsRecord
   no-options h = rw h
 
-  pub options-length : (length l ≡ 32 → ⊥) → refused RECORD ≡ optionsAnswer l
-  unfolding optionsFormed
-  options-length h = no-options (rw (options-size, ne-eqb (length l) 32 h))
-
-  module _ (size : length l ≡ 32) where
-    -- by the fields alone
-    by-fields : optionsFormed l ≡ optionsSound (unpacked optionsLayout l)
+  module _ {sized : Bool} (by : sized ≡ eqb (length l) (sizeOf (layoutBy (length l)))) where
+    pub options-length : not sized ≡ true → refused RECORD ≡ optionsAnswer l
     unfolding optionsFormed
-    by-fields = rw (options-size, eq-eqb (length l) 32 size)
+    options-length h = no-options (rw (failed by h))
 
-    pub options-filler : {zeros : Bool} → zeros ≡ zeroBytes 25 32 l → not zeros ≡ true → refused RECORD ≡ optionsAnswer l
-    unfolding optionsSound
-    options-filler e h = no-options (by-fields ∙ rw (← filler-placed l size, failed e h, and-false))
+    module _ (size : not sized ≡ false) where
+      -- by the fields alone
+      by-fields : optionsFormed l ≡ optionsSound (fieldsIn l)
+      unfolding optionsFormed
+      by-fields = rw (held by size)
 
-    module _ {mark : ℕ} (at : mark ≡ byteAt l 24) where
-      here : mark ≡ getD (unpacked optionsLayout l) 4 0
-      here = at ∙ refit-placed l size
+      wide : 32 ≤ length l
+      wide = ⊎-elim (λ e. omega (arith, e)) (λ e. omega (arith, e)) (either-size (length l) (held by size))
 
-      pub options-mark : 1 < mark → refused RECORD ≡ optionsAnswer l
+      pub options-filler : {zeros : Bool} → zeros ≡ zeroBytes 25 32 l → not zeros ≡ true → refused RECORD ≡ optionsAnswer l
       unfolding optionsSound
-      options-mark h = no-options (by-fields ∙ rw (← here, lt-leb mark 1 h))
+      options-filler e h = no-options (by-fields ∙ rw (← filler-placed l wide, failed e h, and-false))
 
-      module _ (small : mark ≤ 1) {zeros : Bool} (filler : zeros ≡ zeroBytes 25 32 l) (good : not zeros ≡ false) where
-        options-formed : optionsFormed l ≡ true
+      module _ {mark : ℕ} (at : mark ≡ byteAt l 24) where
+        here : mark ≡ getD (fieldsIn l) 4 0
+        here = at ∙ refit-placed l wide
+
+        pub options-mark : 1 < mark → refused RECORD ≡ optionsAnswer l
         unfolding optionsSound
-        options-formed = by-fields ∙ rw (← here, le-leb mark 1 small, ← filler-placed l size) (held filler good)
+        options-mark h = no-options (by-fields ∙ rw (← here, lt-leb mark 1 h))
 
-        pub options-read : {a b : Float} {j k : ℕ} → a ≡ doubleAt l 0 → b ≡ doubleAt l 1 → j ≡ wordAt l 4 → k ≡ wordAt l 5
-            → gives (record { thresh = a; confidence = b; «max_iters» = j; «min_inliers» = k; refit = eqb mark 1 }) ≡ optionsAnswer l
-        unfolding optionsAnswer decided firstFailed optionsRecord optionsOf optionsFrom
-        options-read p q r s =
-            rw (options-formed, p, q, r, s, thresh-placed l size, confidence-placed l size, iters-placed l size, inliers-placed l size, here)
+        module _ (small : mark ≤ 1) {zeros : Bool} (filler : zeros ≡ zeroBytes 25 32 l) (good : not zeros ≡ false) where
+          options-formed : optionsFormed l ≡ true
+          unfolding optionsSound
+          options-formed = by-fields ∙ rw (← here, le-leb mark 1 small, ← filler-placed l wide) (held filler good)
+
+          ratio-read : cond (eqb (length l) 32) one (doubleAt l 4) ≡ ratioFrom (drop 6 (fieldsIn l))
+          ratio-read = ⊎-elim (λ e. rw (eq-eqb (length l) 32 e) (ratio-none l e)) (λ e. rw (ne-eqb (length l) 32 (λ g. omega (arith, e, g))) (ratio-placed l e)) (either-size (length l) (held by size))
+
+          pub options-read : {a b r : Float} {j k : ℕ} → a ≡ doubleAt l 0 → b ≡ doubleAt l 1 → j ≡ wordAt l 4 → k ≡ wordAt l 5 → r ≡ cond (eqb (length l) 32) one (doubleAt l 4)
+              → gives (record { thresh = a; confidence = b; «max_iters» = j; «min_inliers» = k; refit = eqb mark 1; ratio = r }) ≡ optionsAnswer l
+          unfolding optionsAnswer decided firstFailed optionsRecord optionsOf optionsFrom
+          options-read p q r s t =
+              rw (options-formed, p, q, r, s, t ∙ ratio-read, thresh-placed l wide, confidence-placed l wide, iters-placed l wide, inliers-placed l wide, here)
 
 -- ---- the tests of the options
+
+pub options-above-0 : (o : RansacOptions) → T (numbered (optionsTests o))
+unfolding numbered optionsTests thresh confidence iters ratio
+options-above-0 o = tt
+
+-- max_iters is at most 100,000 where they pass
+pub few-iters : (o : RansacOptions) → firstFailed (optionsTests o) ≡ 0 → o .«max_iters» ≤ 100000
+unfolding optionsTests thresh confidence iters
+few-iters o h =
+    let a = first-passed (thresh o) _ tt h in
+    let b = first-passed (confidence o) _ tt (a .1) in
+    let c = first-passed (iters o) _ tt (b .1) in
+    ltb-false 100000 (o .«max_iters») (neither (eqb (o .«max_iters») 0) (ltb 100000 (o .«max_iters»)) (c .0) .1)
 
 module _ (o : RansacOptions) where
   module _ {finite : Bool} (is : finite ≡ isFinite (o .thresh)) where
@@ -86,7 +124,7 @@ module _ (o : RansacOptions) where
       thresh-low h = stops (thresh o) _ (rw (held is some) h)
 
       module _ (above : not (lt zero′ (o .thresh)) ≡ false) where
-        thresh-passes : firstFailed (confidence o ∷ iters o ∷ []) ≡ firstFailed (optionsTests o)
+        thresh-passes : firstFailed (confidence o ∷ iters o ∷ ratio (o .ratio) ∷ []) ≡ firstFailed (optionsTests o)
         unfolding optionsTests thresh
         thresh-passes = passes (thresh o) _ (rw (held is some) above)
 
@@ -100,7 +138,7 @@ module _ (o : RansacOptions) where
           confidence-high h = stops (confidence o) _ (rw (not-false (lt zero′ (o .confidence)) positive) h) ∙ thresh-passes
 
           module _ (below : not (lt (o .confidence) one) ≡ false) where
-            confidence-passes : firstFailed (iters o ∷ []) ≡ firstFailed (optionsTests o)
+            confidence-passes : firstFailed (iters o ∷ ratio (o .ratio) ∷ []) ≡ firstFailed (optionsTests o)
             unfolding confidence
             confidence-passes = passes (confidence o) _ (rw (not-false (lt zero′ (o .confidence)) positive) below) ∙ thresh-passes
 
@@ -113,9 +151,19 @@ module _ (o : RansacOptions) where
               unfolding iters
               iters-many h = stops (iters o) _ (rw (ne-eqb (o .«max_iters») 0 some-iters) (lt-ltb 100000 (o .«max_iters») h)) ∙ confidence-passes
 
-              pub options-accepted : o .«max_iters» ≤ 100000 → 0 ≡ firstFailed (optionsTests o)
-              unfolding iters firstFailed
-              options-accepted h = passes (iters o) [] (rw (ne-eqb (o .«max_iters») 0 some-iters) (le-ltb 100000 (o .«max_iters») h)) ∙ confidence-passes
+              module _ (few-iters : o .«max_iters» ≤ 100000) where
+                iters-pass : firstFailed (ratio (o .ratio) ∷ []) ≡ firstFailed (optionsTests o)
+                unfolding iters
+                iters-pass = passes (iters o) _ (rw (ne-eqb (o .«max_iters») 0 some-iters) (le-ltb 100000 (o .«max_iters») few-iters)) ∙ confidence-passes
+
+                module _ {accepted : Bool} (by : accepted ≡ ratioAccepted (o .ratio)) where
+                  pub ratio-outside : not accepted ≡ true → RATIO ≡ firstFailed (optionsTests o)
+                  unfolding ratio
+                  ratio-outside h = stops (ratio (o .ratio)) _ (rw (failed by h)) ∙ iters-pass
+
+                  pub options-accepted : not accepted ≡ false → 0 ≡ firstFailed (optionsTests o)
+                  unfolding ratio firstFailed
+                  options-accepted h = passes (ratio (o .ratio)) [] (rw (held by h)) ∙ iters-pass
 
 -- ---- a trial's record, part by part
 

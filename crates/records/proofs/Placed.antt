@@ -1,53 +1,81 @@
 -- Where the fields of an options record and of a trial's record stand in its bytes. Assumes nothing.
 use mathlib.Core.Path.{_≡_, refl, sym, ap, _∙_}
+use mathlib.Core.Bool.{Bool, true, false, cond}
 use mathlib.Core.List.{List, map}
-use Prim.Native.Nat.{ℕ, _/_}
+use Prim.Native.Nat.{ℕ, _/_, _≤_, _<_}
 use native.Mathlib.Omega.{arith}
+use borrow.Author.Tests.{eq-eqb, ne-eqb}
 use lib.Dec.{eqb}
 use lib.ListN.{length, getD, take, drop}
-use lib.Seq.{drop-drop}
+use lib.Seq.{drop-drop, getD-take}
 use lib.Ieee.{binary64, ofBits}
 use Rattle.rule.specs.Lists.{firstParts, partsOf}
+use Rattle.numbers.specs.Constants.{one}
 use Rattle.fields.specs.Fields.{littleEndian, fieldsOf, longsOf, byteAt, wordAt, doubleAt, zeroBytes}
 use Rattle.fields.specs.Packing.{sizeOf, unpacked}
 use Rattle.fields.proofs.Reading.{word-spelled, long-spelled}
 use Rattle.fields.proofs.Packing.{field-placed, byte-spelled, zero-spelled, unpacked-even}
-use Rattle.records.specs.Options.{optionsLayout}
+use Rattle.records.specs.Options.{shortLayout, optionsLayout, layoutBy, fieldsIn, ratioFrom}
 use Rattle.records.specs.Trial.{trialLayout, fitBits, refitBits}
 
 -- ---- options
 
-pub options-size : sizeOf optionsLayout ≡ 32
-unfolding sizeOf optionsLayout
+pub short-size : sizeOf shortLayout ≡ 32
+unfolding sizeOf shortLayout
+short-size = refl
+
+pub options-size : sizeOf optionsLayout ≡ 40
+unfolding sizeOf shortLayout optionsLayout
 options-size = refl
 
-module _ (l : List ℕ) (size : length l ≡ 32) where
+-- both lengths begin with the same fields
+same-front : (short : Bool) (l : List ℕ) → take 6 (unpacked (cond short shortLayout optionsLayout) l) ≡ unpacked shortLayout l
+unfolding unpacked shortLayout optionsLayout
+same-front true l = refl
+same-front false l = refl
+
+module _ (l : List ℕ) (wide : 32 ≤ length l) where
   abbrev options : List ℕ
-  options = unpacked optionsLayout l
+  options = fieldsIn l
+
+  front : (i : ℕ) → i < 6 → littleEndian (take (getD shortLayout i 0) (drop (sizeOf (take i shortLayout)) l)) ≡ getD options i 0
+  unfolding fieldsIn layoutBy shortLayout
+  front i h = sym (field-placed shortLayout l i h) ∙ ap (λ f. getD f i 0) (sym (same-front (eqb (length l) (sizeOf shortLayout)) l)) ∙ getD-take 6 options i 0 h
 
   pub thresh-placed : doubleAt l 0 ≡ ofBits binary64 (getD options 0 0)
-  unfolding doubleAt sizeOf optionsLayout
-  thresh-placed = ap (ofBits binary64) (long-spelled l 0 (omega arith) ∙ sym (field-placed optionsLayout l 0 (omega arith)))
+  unfolding doubleAt sizeOf shortLayout
+  thresh-placed = ap (ofBits binary64) (long-spelled l 0 (omega arith) ∙ front 0 (omega arith))
 
   pub confidence-placed : doubleAt l 1 ≡ ofBits binary64 (getD options 1 0)
-  unfolding doubleAt sizeOf optionsLayout
-  confidence-placed = ap (ofBits binary64) (long-spelled l 1 (omega arith) ∙ sym (field-placed optionsLayout l 1 (omega arith)))
+  unfolding doubleAt sizeOf shortLayout
+  confidence-placed = ap (ofBits binary64) (long-spelled l 1 (omega arith) ∙ front 1 (omega arith))
 
   pub iters-placed : wordAt l 4 ≡ getD options 2 0
-  unfolding sizeOf optionsLayout
-  iters-placed = word-spelled l 4 (omega arith) ∙ sym (field-placed optionsLayout l 2 (omega arith))
+  unfolding sizeOf shortLayout
+  iters-placed = word-spelled l 4 (omega arith) ∙ front 2 (omega arith)
 
   pub inliers-placed : wordAt l 5 ≡ getD options 3 0
-  unfolding sizeOf optionsLayout
-  inliers-placed = word-spelled l 5 (omega arith) ∙ sym (field-placed optionsLayout l 3 (omega arith))
+  unfolding sizeOf shortLayout
+  inliers-placed = word-spelled l 5 (omega arith) ∙ front 3 (omega arith)
 
   pub refit-placed : byteAt l 24 ≡ getD options 4 0
-  unfolding sizeOf optionsLayout
-  refit-placed = byte-spelled l 24 (omega arith) ∙ sym (field-placed optionsLayout l 4 (omega arith))
+  unfolding sizeOf shortLayout
+  refit-placed = byte-spelled l 24 (omega arith) ∙ front 4 (omega arith)
 
   pub filler-placed : zeroBytes 25 32 l ≡ eqb (getD options 5 0) 0
-  unfolding sizeOf optionsLayout
-  filler-placed = zero-spelled 25 7 l (omega arith) ∙ ap (λ n. eqb n 0) (sym (field-placed optionsLayout l 5 (omega arith)))
+  unfolding sizeOf shortLayout
+  filler-placed = zero-spelled 25 7 l (omega arith) ∙ ap (λ n. eqb n 0) (front 5 (omega arith))
+
+-- the ratio behind them, where the record has one
+pub ratio-none : (l : List ℕ) → length l ≡ 32 → one ≡ ratioFrom (drop 6 (fieldsIn l))
+unfolding fieldsIn layoutBy ratioFrom unpacked shortLayout
+ratio-none l size = rw (short-size, eq-eqb (length l) 32 size)
+
+pub ratio-placed : (l : List ℕ) → length l ≡ 40 → doubleAt l 4 ≡ ratioFrom (drop 6 (fieldsIn l))
+unfolding fieldsIn layoutBy ratioFrom unpacked shortLayout optionsLayout doubleAt sizeOf
+ratio-placed l size =
+    let far : length l ≡ 32 → ⊥ = λ e. omega (arith, e, size) in
+    rw (short-size, ne-eqb (length l) 32 far) (ap (ofBits binary64) (long-spelled l 4 (omega (arith, size)) ∙ sym (field-placed optionsLayout l 6 (omega arith))))
 
 -- ---- a trial
 

@@ -123,8 +123,8 @@ numberOf (gives w) = 0
 unfoldable pub winnerBytes : Winner Model → List ℕ
 winnerBytes w = bytesOf 4 (w .count) ++ (bytesOf 4 (w .number) ++ (doubleBytes (w .rms) ++ forEach doubleBytes (modelNumbers (w .model))))
 
-unfoldable pub indexBytes : Float → List Float → Model → List ℕ
-indexBytes thresh numbers h = forEach (bytesOf 4) (indicesIn thresh (distancesOf numbers h))
+unfoldable pub indexBytes : RansacOptions → List Float → Model → List ℕ
+indexBytes o numbers h = forEach (bytesOf 4) (indicesIn (o .thresh) (distancesOf (o .ratio) numbers h))
 
 -- bytes over the front of a list, which is as long at least
 unfoldable pub laidOver : List ℕ → List ℕ → List ℕ
@@ -136,10 +136,10 @@ written bytes (refused k) entry = entry
 written bytes (gives w) entry = laidOver (bytes w) entry
 
 -- What a run that answers `a` gives, and leaves in the two lent lists.
-pub record Gave (a : Answer (Winner Model)) (thresh : Float) (numbers : List Float) (winner indices : List ℕ) (r : ℕ) (winner′ indices′ : List ℕ) : Type 0 where
+pub record Gave (a : Answer (Winner Model)) (o : RansacOptions) (numbers : List Float) (winner indices : List ℕ) (r : ℕ) (winner′ indices′ : List ℕ) : Type 0 where
   pub number-is : r ≡ numberOf a
   pub winner-is : winner′ ≡ written winnerBytes a winner
-  pub indices-is : indices′ ≡ written (λ w. indexBytes thresh numbers (w .model)) a indices
+  pub indices-is : indices′ ≡ written (λ w. indexBytes o numbers (w .model)) a indices
 
 -- how the trials ended, as the program has it
 unfoldable pub viewRan : Ran → Stopped Model

@@ -69,14 +69,14 @@ fn put_winner(part: &mut [u8], w: Winner)
 }
 
 // The indices of the marks within the threshold under a model, four bytes each.
-fn put_indices(h: Model, thresh: f64, marks: &[f64], indices: &mut [u8])
+fn put_indices(o: RansacOptions, h: Model, marks: &[f64], indices: &mut [u8])
     requires { ⌜ length (now marks) ≤ 8000 ⌝ }
     requires { ⌜ 4 * length (marksOf (now marks)) ≤ length (now indices) ⌝ }
-    ensures { λ _. ⌜ now (indices .exit) ≡ laidOver (indexBytes thresh (now (marks .entry)) h) (now (indices .entry)) ⌝ }
+    ensures { λ _. ⌜ now (indices .exit) ≡ laidOver (indexBytes o (now (marks .entry)) h) (now (indices .entry)) ⌝ }
 {
     let mut squares = [0.0; 2000];
     let mut places = [0; 2000];
-    let count = judge::write_inliers(h, thresh, marks, &mut squares, &mut places);
+    let count = judge::write_inliers(o, h, marks, &mut squares, &mut places);
     fields::write_words(&places[..count], indices);
 }
 
@@ -111,25 +111,25 @@ fn check_later(numbers: &[f64], stops: usize, trials: usize, winner: usize, indi
 }
 
 // Writes what a held winner gives: its record, and the indices of its marks.
-fn give(w: Winner, thresh: f64, numbers: &[f64], winner: &mut [u8], indices: &mut [u8])
+fn give(o: RansacOptions, w: Winner, numbers: &[f64], winner: &mut [u8], indices: &mut [u8])
     requires { ⌜ length (now numbers) ≤ 8000 ⌝ }
     requires { ⌜ 88 ≤ length (now winner) ⌝ }
     requires { ⌜ 4 * length (marksOf (now numbers)) ≤ length (now indices) ⌝ }
     ensures { λ _. ⌜ now (winner .exit) ≡ laidOver (winnerBytes (viewWinner w)) (now (winner .entry)) ⌝ }
-    ensures { λ _. ⌜ now (indices .exit) ≡ laidOver (indexBytes thresh (now (numbers .entry)) (w .model)) (now (indices .entry)) ⌝ }
+    ensures { λ _. ⌜ now (indices .exit) ≡ laidOver (indexBytes o (now (numbers .entry)) (w .model)) (now (indices .entry)) ⌝ }
 {
     put_winner(&mut winner[0..88], w);
     let model = w.model;
-    put_indices(model, thresh, numbers, indices);
+    put_indices(o, model, numbers, indices);
 }
 
 // What the trials' end comes to: the refused trial's number, 11 without a winner, or 0 and the
 // winner written.
-fn finish(ran: Ran, thresh: f64, numbers: &[f64], winner: &mut [u8], indices: &mut [u8]) -> u32
+fn finish(o: RansacOptions, ran: Ran, numbers: &[f64], winner: &mut [u8], indices: &mut [u8]) -> u32
     requires { ⌜ length (now numbers) ≤ 8000 ⌝ }
     requires { ⌜ 88 ≤ length (now winner) ⌝ }
     requires { ⌜ 4 * length (marksOf (now numbers)) ≤ length (now indices) ⌝ }
-    ensures { λ r. ⌜ Gave (resultOf (viewRan ran)) thresh (now (numbers .entry)) (now (winner .entry)) (now (indices .entry)) r (now (winner .exit)) (now (indices .exit)) ⌝ }
+    ensures { λ r. ⌜ Gave (resultOf (viewRan ran)) o (now (numbers .entry)) (now (winner .entry)) (now (indices .entry)) r (now (winner .exit)) (now (indices .exit)) ⌝ }
 {
     match ran {
         Ran::Broken(k) => k,
@@ -138,7 +138,7 @@ fn finish(ran: Ran, thresh: f64, numbers: &[f64], winner: &mut [u8], indices: &m
             match best {
                 Best::Nothing => rule::NONE,
                 Best::Held(w) => {
-                    give(w, thresh, numbers, winner, indices);
+                    give(o, w, numbers, winner, indices);
                     0
                 }
             }
@@ -158,7 +158,7 @@ fn run_numbers(
     requires { ⌜ 0 ≡ firstFailed (optionsTests o) ⌝ }
     requires { ⌜ length (now numbers) % 4 ≡ 0 ⌝ }
     requires { ⌜ length (now numbers) ≤ 8000 ⌝ }
-    ensures { λ r. ⌜ Gave (laterAnswer o (now (numbers .entry)) (length (marksOf (now (numbers .entry)))) (now (stops .entry)) (now (trials .entry)) (length (now (winner .entry))) (length (now (indices .entry)))) (o .thresh) (now (numbers .entry)) (now (winner .entry)) (now (indices .entry)) r (now (winner .exit)) (now (indices .exit)) ⌝ }
+    ensures { λ r. ⌜ Gave (laterAnswer o (now (numbers .entry)) (length (marksOf (now (numbers .entry)))) (now (stops .entry)) (now (trials .entry)) (length (now (winner .entry))) (length (now (indices .entry)))) o (now (numbers .entry)) (now (winner .entry)) (now (indices .entry)) r (now (winner .exit)) (now (indices .exit)) ⌝ }
 {
     let refusal = check_later(
         numbers,
@@ -174,7 +174,7 @@ fn run_numbers(
     fields::read_words(stops, &mut entries);
     let n = sheet::mark_count(numbers);
     let ran = read_trials(o, numbers, &entries[..n + 1], trials);
-    finish(ran, o.thresh, numbers, winner, indices)
+    finish(o, ran, numbers, winner, indices)
 }
 
 // The run with options that were read.
@@ -186,7 +186,7 @@ fn run_options(
     winner: &mut [u8],
     indices: &mut [u8],
 ) -> u32
-    ensures { λ r. ⌜ Gave (optionsAnswer o (now (marks .entry)) (now (stops .entry)) (now (trials .entry)) (length (now (winner .entry))) (length (now (indices .entry)))) (o .thresh) (numbersIn (now (marks .entry))) (now (winner .entry)) (now (indices .entry)) r (now (winner .exit)) (now (indices .exit)) ⌝ }
+    ensures { λ r. ⌜ Gave (optionsAnswer o (now (marks .entry)) (now (stops .entry)) (now (trials .entry)) (length (now (winner .entry))) (length (now (indices .entry)))) o (numbersIn (now (marks .entry))) (now (winner .entry)) (now (indices .entry)) r (now (winner .exit)) (now (indices .exit)) ⌝ }
 {
     let refusal = records::validate(o);
     if refusal != 0 {
@@ -214,7 +214,7 @@ pub extern "C" fn salghemu_run(
     winner: &mut [u8],
     indices: &mut [u8],
 ) -> u32
-    ensures { λ r. ⌜ Gave (runAnswer (record { options = now (options .entry); marks = now (marks .entry); stops = now (stops .entry); trials = now (trials .entry) }) (length (now (winner .entry))) (length (now (indices .entry)))) (optionsOf (now (options .entry)) .thresh) (numbersIn (now (marks .entry))) (now (winner .entry)) (now (indices .entry)) r (now (winner .exit)) (now (indices .exit)) ⌝ }
+    ensures { λ r. ⌜ Gave (runAnswer (record { options = now (options .entry); marks = now (marks .entry); stops = now (stops .entry); trials = now (trials .entry) }) (length (now (winner .entry))) (length (now (indices .entry)))) (optionsOf (now (options .entry))) (numbersIn (now (marks .entry))) (now (winner .entry)) (now (indices .entry)) r (now (winner .exit)) (now (indices .exit)) ⌝ }
 {
     match records::read_options(options) {
         OptionsRead::Refused(k) => k,

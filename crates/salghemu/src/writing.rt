@@ -11,12 +11,21 @@ pub extern "C" fn salghemu_write_options(
     max_iters: u32,
     min_inliers: u32,
     refit_mark: u8,
+    ratio: f64,
     out: &mut [u8],
 ) -> u32
-    ensures { λ r. ⌜ r ≡ writerAnswer optionsFormat (record { thresh = thresh; confidence = confidence; «max_iters» = «max_iters»; «min_inliers» = «min_inliers»; «refit_mark» = «refit_mark» }) (now (out .entry)) ⌝ }
-    ensures { λ _. ⌜ now (out .exit) ≡ written optionsFormat (record { thresh = thresh; confidence = confidence; «max_iters» = «max_iters»; «min_inliers» = «min_inliers»; «refit_mark» = «refit_mark» }) (now (out .entry)) ⌝ }
+    ensures { λ r. ⌜ r ≡ writerAnswer optionsFormat (record { thresh = thresh; confidence = confidence; «max_iters» = «max_iters»; «min_inliers» = «min_inliers»; «refit_mark» = «refit_mark»; ratio = ratio }) (now (out .entry)) ⌝ }
+    ensures { λ _. ⌜ now (out .exit) ≡ written optionsFormat (record { thresh = thresh; confidence = confidence; «max_iters» = «max_iters»; «min_inliers» = «min_inliers»; «refit_mark» = «refit_mark»; ratio = ratio }) (now (out .entry)) ⌝ }
 {
-    writer::write_options(thresh, confidence, max_iters, min_inliers, refit_mark, out)
+    writer::write_options(
+        thresh,
+        confidence,
+        max_iters,
+        min_inliers,
+        refit_mark,
+        ratio,
+        out,
+    )
 }
 
 #[no_mangle]

@@ -12,7 +12,7 @@ use Rattle.numbers.specs.Constants.{zero′}
 use Rattle.numbers.specs.Finite.{allFinite}
 use Rattle.numbers.specs.Measure.{Measure, beyond, distance, asDistance}
 use Rattle.numbers.specs.Ratio.{ratio, squaredOff}
-use Rattle.sheet.specs.Marks.{pointOf, markNumbers, point}
+use Rattle.sheet.specs.Marks.{pointOf, squaredApart, markNumbers, point}
 use Rattle.sheet.specs.declared.marks.Mark.{Mark}
 use Rattle.sheet.specs.declared.marks.Point.{Point}
 use Rattle.sheet.specs.declared.marks.Side.the-variants.{Sheet, Pixel}
@@ -50,6 +50,12 @@ measureOf ratio h m =
 -- 01's distance: infinite unless s > 0
 unfoldable pub distanceOf : (ratio : Float) → Model → Mark → Float
 distanceOf ratio h m = asDistance (measureOf ratio h m)
+
+-- 01's own, from before there was a ratio: of square pixels
+unfoldable pub plainMeasureOf : Model → Mark → Measure
+plainMeasureOf h m =
+    let to = projectionOf h (pointOf Sheet m) in
+    cond (beyondUnder h m) beyond (distance (rootOf (squaredApart (to .at) (pointOf Pixel m))))
 
 -- The mark lies within the threshold under the model: in the terms of the field, it is an inlier. A NaN is not within it.
 unfoldable pub inlier : (ratio : Float) → Model → Float → Mark → Bool

@@ -54,7 +54,7 @@ opts thresh least refits = record { thresh = thresh; most = 10; least = least; r
 
 -- what a trial comes to, with the stop list 9 9 9 9 3 9 of the worked run
 abbrev trial : Options → Trial Model → Judged Model
-trial o t = judgeTrial o (λ h. map (distanceOf h) square) (9 ∷ 9 ∷ 9 ∷ 9 ∷ 3 ∷ 9 ∷ []) t
+trial o t = judgeTrial o (λ h. map (distanceOf (whole 1) h) square) (9 ∷ 9 ∷ 9 ∷ 9 ∷ 3 ∷ 9 ∷ []) t
 
 -- the same with the number beyond
 abbrev judgement : Options → Trial Model → Judgement Model
@@ -68,15 +68,15 @@ abbrev stands : Model → ℕ → Float → ℕ → Judged Model
 stands h count rms stop = scored (record { model = h; count = count; rms = rms; stop = stop })
 
 pub record Starred : Type 0 where
-  pub under-I : map (distanceOf I) square ≡ whole 0 ∷ whole 0 ∷ whole 0 ∷ whole 0 ∷ whole 3 ∷ []
-  pub under-T : map (distanceOf T) square ≡ whole 3 ∷ whole 3 ∷ whole 3 ∷ whole 3 ∷ whole 0 ∷ []
-  pub I-within-2 : countOf (inlier I (whole 2)) square ≡ 4
-  pub I-within-3 : countOf (inlier I (whole 3)) square ≡ 5
-  pub T-within-2 : countOf (inlier T (whole 2)) square ≡ 1
-  pub none-behind : countOf (inlier behind (whole 2)) square ≡ 0
+  pub under-I : map (distanceOf (whole 1) I) square ≡ whole 0 ∷ whole 0 ∷ whole 0 ∷ whole 0 ∷ whole 3 ∷ []
+  pub under-T : map (distanceOf (whole 1) T) square ≡ whole 3 ∷ whole 3 ∷ whole 3 ∷ whole 3 ∷ whole 0 ∷ []
+  pub I-within-2 : countOf (inlier (whole 1) I (whole 2)) square ≡ 4
+  pub I-within-3 : countOf (inlier (whole 1) I (whole 3)) square ≡ 5
+  pub T-within-2 : countOf (inlier (whole 1) T (whole 2)) square ≡ 1
+  pub none-behind : countOf (inlier (whole 1) behind (whole 2)) square ≡ 0
   -- I, thresh 2: 4 marks, rms 0. Thresh 3: 5 marks.
   pub I-scored : trial (opts (whole 2) 4 false) (fitted I) ≡ stands I 4 (whole 0) 3
-  pub I-scores-5 : countIn (whole 3) (map (distanceOf I) square) ≡ 5
+  pub I-scores-5 : countIn (whole 3) (map (distanceOf (whole 1) I) square) ≡ 5
   pub T-few : trial (opts (whole 2) 4 false) (fitted T) ≡ few 1
   -- fit I, refit T, thresh 2, refit on: min 4 keeps I; min 1 takes T, count 1
   pub refit-too-low : trial (opts (whole 2) 4 true) (refitted I T) ≡ stands I 4 (whole 0) 3
@@ -85,7 +85,7 @@ pub record Starred : Type 0 where
   pub behind-few : trial (opts (whole 2) 1 false) (fitted behind) ≡ few 0
   pub behind-scored : trial (opts (whole 2) 0 false) (fitted behind) ≡ stands behind 0 infinity 10
   -- the same, each mark beyond: the answer has 5 of them (document 02, order 2)
-  pub all-beyond : map (measureOf behind) square ≡ beyond ∷ beyond ∷ beyond ∷ beyond ∷ beyond ∷ []
+  pub all-beyond : map (measureOf (whole 1) behind) square ≡ beyond ∷ beyond ∷ beyond ∷ beyond ∷ beyond ∷ []
   pub few-with-5 : answers (opts (whole 2) 1 false) (fitted behind) ≡ record { outcome = is-few 0; beyond = 5 } ∷ []
   pub won-with-5 : answers (opts (whole 2) 0 false) (fitted behind) ≡ record { outcome = is-won 0 infinity; beyond = 5 } ∷ []
   -- I twice, thresh 2, min 4: trial 1 wins

@@ -24,7 +24,7 @@ use Rattle.writer.specs.Format.{Format}
 abbrev Double : Float → Type 0
 Double x = T (fits binary64 x)
 
--- ---- options: 1, 2, 3, 4
+-- ---- options: 1, 2, 3, 4, 16. The format is that of 40 bytes alone.
 
 pub record OptionNumbers : Type 0 where
   pub thresh : Float
@@ -33,6 +33,7 @@ pub record OptionNumbers : Type 0 where
   pub «min_inliers» : ℕ
   -- a byte
   pub «refit_mark» : ℕ
+  pub ratio : Float
 
 unfoldable pub optionsNumbers : RansacOptions → OptionNumbers
 optionsNumbers o =
@@ -42,15 +43,16 @@ optionsNumbers o =
       «max_iters» = o .«max_iters»;
       «min_inliers» = o .«min_inliers»;
       «refit_mark» = cond (o .refit) 1 0;
+      ratio = o .ratio;
     }
 
 unfoldable pub optionsFields : OptionNumbers → List ℕ
 optionsFields n =
-    toBits binary64 (n .thresh) ∷ toBits binary64 (n .confidence) ∷ n .«max_iters» ∷ n .«min_inliers» ∷ n .«refit_mark» ∷ 0 ∷ []
+    toBits binary64 (n .thresh) ∷ toBits binary64 (n .confidence) ∷ n .«max_iters» ∷ n .«min_inliers» ∷ n .«refit_mark» ∷ 0 ∷ toBits binary64 (n .ratio) ∷ []
 
 unfoldable pub optionsRepresentable : OptionNumbers → Type 0
 optionsRepresentable n =
-    Double (n .thresh) × Double (n .confidence) × (n .«max_iters» < 0x1_0000_0000) × (n .«min_inliers» < 0x1_0000_0000) × (n .«refit_mark» < 256)
+    Double (n .thresh) × Double (n .confidence) × (n .«max_iters» < 0x1_0000_0000) × (n .«min_inliers» < 0x1_0000_0000) × (n .«refit_mark» < 256) × Double (n .ratio)
 
 unfoldable pub optionsAsked : List ℕ → List Test
 optionsAsked f = record { fails = not (optionsSound f); number = RECORD } ∷ optionsTests (optionsFrom f)

@@ -36,13 +36,13 @@ supported-by-requires-2 : tie.Need-supported-by-requires-2
 supported-by-requires-2 c κs = (c .before .before .before .before .before .before .before .before .before .before .before .before .before .before .before .before .before .pre, counted _ _ _ _ (c .before .before .before .before .before .before .before .before .before .before .before .count-under .ensures .0))
 
 returns-3 : tie.Need-returns-3
-returns-3 c = refit-low _ _ _ _ _ _ (counted _ _ _ _ (c .before .before .before .before .before .before .before .before .before .before .before .before .count-under .ensures .0)) (c .before .before .before .before .before .before .before .before .before .before .before .before .count-under .ensures .1 .0) _ (c .before .before .before .before .before .before .before .before .before .before .if1 .left) (counted _ _ _ _ (c .before .before .before .before .before .count-under2 .ensures .0)) (not-false _ (c .before .before .before .before .before .before .before .before .if2 .left)) (c .before .before .before .if3 .taken) (c .before .squared-residuals .ensures .1 ∙ measured-twice _ _ _ _ (c .before .before .before .before .before .count-under2 .ensures .1 .1 ∙ measured-twice _ _ _ _ (c .before .before .before .before .before .before .before .before .before .before .before .before .count-under .ensures .1 .1))) _ (c .supported-by2 .ensures)
+returns-3 c = refit-low _ _ _ _ _ _ (counted _ _ _ _ (c .before .before .before .before .before .before .before .before .before .before .before .before .count-under .ensures .0)) (c .before .before .before .before .before .before .before .before .before .before .before .before .count-under .ensures .1 .0) _ (c .before .before .before .before .before .before .before .before .before .before .if1 .left) (counted _ _ _ _ (c .before .before .before .before .before .count-under2 .ensures .0)) (not-false _ (c .before .before .before .before .before .before .before .before .if2 .left)) (c .before .before .before .if3 .taken) (c .before .squared-residuals .ensures .1 ∙ measured-twice _ _ _ _ _ (c .before .before .before .before .before .count-under2 .ensures .1 .1 ∙ measured-twice _ _ _ _ _ (c .before .before .before .before .before .before .before .before .before .before .before .before .count-under .ensures .1 .1))) _ (c .supported-by2 .ensures)
 
 supported-by-requires-3 : tie.Need-supported-by-requires-3
 supported-by-requires-3 c κs = (c .before .before .before .before .before .before .before .before .before .before .before .before .before .before .before .pre, counted _ _ _ _ (c .before .before .count-under2 .ensures .0))
 
 returns-4 : tie.Need-returns-4
-returns-4 c = refit-scored _ _ _ _ _ _ (counted _ _ _ _ (c .before .before .before .before .before .before .before .before .before .before .count-under .ensures .0)) (c .before .before .before .before .before .before .before .before .before .before .count-under .ensures .1 .0) _ (c .before .before .before .before .before .before .before .before .if1 .left) (counted _ _ _ _ (c .before .before .before .count-under2 .ensures .0)) (not-false _ (c .before .before .before .before .before .before .if2 .left)) (c .before .if3 .left) (c .before .before .before .count-under2 .ensures .1 .1 ∙ measured-twice _ _ _ _ (c .before .before .before .before .before .before .before .before .before .before .count-under .ensures .1 .1)) _ (c .supported-by3 .ensures)
+returns-4 c = refit-scored _ _ _ _ _ _ (counted _ _ _ _ (c .before .before .before .before .before .before .before .before .before .before .count-under .ensures .0)) (c .before .before .before .before .before .before .before .before .before .before .count-under .ensures .1 .0) _ (c .before .before .before .before .before .before .before .before .if1 .left) (counted _ _ _ _ (c .before .before .before .count-under2 .ensures .0)) (not-false _ (c .before .before .before .before .before .before .if2 .left)) (c .before .if3 .left) (c .before .before .before .count-under2 .ensures .1 .1 ∙ measured-twice _ _ _ _ _ (c .before .before .before .before .before .before .before .before .before .before .count-under .ensures .1 .1)) _ (c .supported-by3 .ensures)
 
 pub count-refit-spec : {M : Type 1} → statement M
 count-refit-spec =

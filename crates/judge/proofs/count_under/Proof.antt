@@ -14,10 +14,10 @@ mark-count-requires : tie.Need-mark-count-requires
 mark-count-requires c κs = search needs
 
 slice-reshare-prefix-count-inliers : tie.Need-slice-reshare-prefix-count-inliers
-slice-reshare-prefix-count-inliers c = measured-fits _ _ _ (c .mark-count .ensures) (few-enough _ (c .before .before .before .before .before .before .before .pre .0) (c .before .before .before .before .before .before .before .pre .1)) (c .before .before .before .squared-residuals .ensures .1)
+slice-reshare-prefix-count-inliers c = measured-fits _ _ _ _ (c .mark-count .ensures) (few-enough _ (c .before .before .before .before .before .before .before .pre .0) (c .before .before .before .before .before .before .before .pre .1)) (c .before .before .before .squared-residuals .ensures .1)
 
 slice-aggregate-count-inliers : tie.Need-slice-aggregate-count-inliers
-slice-aggregate-count-inliers c = measured-front _ _ _ (c .before .mark-count .ensures) (few-enough _ (c .before .before .before .before .before .before .before .before .pre .0) (c .before .before .before .before .before .before .before .before .pre .1)) (c .before .before .before .before .squared-residuals .ensures .1)
+slice-aggregate-count-inliers c = measured-front _ _ _ _ (c .before .mark-count .ensures) (few-enough _ (c .before .before .before .before .before .before .before .before .pre .0) (c .before .before .before .before .before .before .before .before .pre .1)) (c .before .before .before .before .squared-residuals .ensures .1)
 
 count-inliers-requires : tie.Need-count-inliers-requires
 count-inliers-requires c κs = search needs
@@ -29,7 +29,7 @@ same-length : tie.Need-same-length
 same-length c = search needs
 
 returns : tie.Need-returns
-returns c = (c .count-inliers .ensures ∙ ap (countIn _) (measured-roots _ _ _ (c .before .before .mark-count .ensures) (few-enough _ (c .before .before .before .before .before .before .before .before .before .pre .0) (c .before .before .before .before .before .before .before .before .before .pre .1)) (c .before .before .before .before .before .squared-residuals .ensures .1)), (found-beyond _ _ _ _ (few-enough _ (c .before .before .before .before .before .before .before .before .before .pre .0) (c .before .before .before .before .before .before .before .before .before .pre .1)) (c .before .before .before .before .before .squared-residuals .ensures .0), c .before .before .before .before .before .squared-residuals .ensures .1))
+returns c = (c .count-inliers .ensures ∙ ap (countIn _) (measured-roots _ _ _ _ (c .before .before .mark-count .ensures) (few-enough _ (c .before .before .before .before .before .before .before .before .before .pre .0) (c .before .before .before .before .before .before .before .before .before .pre .1)) (c .before .before .before .before .before .squared-residuals .ensures .1)), (found-beyond _ _ _ _ (few-enough _ (c .before .before .before .before .before .before .before .before .before .pre .0) (c .before .before .before .before .before .before .before .before .before .pre .1)) (c .before .before .before .before .before .squared-residuals .ensures .0), c .before .before .before .before .before .squared-residuals .ensures .1))
 
 pub count-under-spec : {M : Type 1} → statement M
 count-under-spec =

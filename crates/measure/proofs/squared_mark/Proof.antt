@@ -2,8 +2,7 @@
 use mathlib.Core.Path.{refl}
 use borrow.Author.Needs.{needs}
 use lib.Ieee.{nanBits}
-use Rattle.numbers.specs.Measure.{isBeyond}
-use Rattle.sheet.specs.Distance.{measureOf, beyondUnder}
+use Rattle.sheet.specs.Distance.{beyondUnder}
 use Rattle.measure.specs.Distances.{squaredOf}
 use Rattle.measure.proofs.squared_mark.Statement.{statement}
 use Rattle.measure.proofs.squared_mark.Tie as tie
@@ -17,19 +16,19 @@ project-requires c κs = search needs
 point-of-requires-2 : tie.Need-point-of-requires-2
 point-of-requires-2 c κs = search needs
 
-squared-apart-requires : tie.Need-squared-apart-requires
-squared-apart-requires c κs = search needs
+squared-residual-requires : tie.Need-squared-residual-requires
+squared-residual-requires c κs = search needs
 
-float-from-bits-t9 : tie.Need-float-from-bits-t9
+float-from-bits-t10 : tie.Need-float-from-bits-t10
 unfolding nanBits
-float-from-bits-t9 c = tt
+float-from-bits-t10 c = tt
 
 returns : tie.Need-returns
-unfolding squaredOf beyondUnder measureOf isBeyond
-returns c = rw (← c .before .before .before .before .before .point-of .ensures, ← c .before .before .before .before .project .ensures, ← c .before .before .before .point-of2 .ensures, c .if1 .taken) (c .before .before .squared-apart .ensures, refl)
+unfolding squaredOf beyondUnder
+returns c = rw (← c .before .before .before .before .before .point-of .ensures, ← c .before .before .before .before .project .ensures, ← c .before .before .before .point-of2 .ensures, c .if1 .taken) (c .before .before .squared-residual .ensures, refl)
 
 returns-2 : tie.Need-returns-2
-unfolding squaredOf beyondUnder measureOf isBeyond
+unfolding squaredOf beyondUnder
 returns-2 c = rw (← c .before .before .before .before .before .point-of .ensures, ← c .before .before .before .before .project .ensures, c .if1 .left) (refl, refl)
 
 pub squared-mark-spec : {M : Type 1} → statement M
@@ -39,7 +38,7 @@ squared-mark-spec =
     point-of-requires
     project-requires
     point-of-requires-2
-    squared-apart-requires
-    float-from-bits-t9
+    squared-residual-requires
+    float-from-bits-t10
     returns
     returns-2)

@@ -7,31 +7,31 @@ use Rattle.measure.proofs.squared_residuals.Statement.{statement}
 use Rattle.measure.proofs.squared_residuals.Tie as tie
 
 abbrev Inv-loop : tie.InvT-loop
-Inv-loop h marks squares₀ counting n beyond₀ i₀ squares beyond i = (i ≤ n) × Measured counting marks h squares₀ i beyond squares
+Inv-loop h ratio marks squares₀ counting n beyond₀ i₀ squares beyond i = (i ≤ n) × Measured counting ratio marks h squares₀ i beyond squares
 
 abbrev μ-loop : tie.MeasureT-loop
-μ-loop h marks squares₀ counting n beyond₀ i₀ squares beyond i = n - i
+μ-loop h ratio marks squares₀ counting n beyond₀ i₀ squares beyond i = n - i
 
 mark-count-requires : tie.Need-mark-count-requires Inv-loop μ-loop
 mark-count-requires c κs = search needs
 
 returns : tie.Need-returns Inv-loop μ-loop
-returns c = no-room _ _ _ _ (c .before .mark-count .ensures) (c .if1 .taken)
+returns c = no-room _ _ _ _ _ (c .before .mark-count .ensures) (c .if1 .taken)
 
 loop-holds : tie.Need-loop-holds Inv-loop μ-loop
-loop-holds c = (search needs, measured-none _ _ _ _)
+loop-holds c = (search needs, measured-none _ _ _ _ _)
 
 mark-at-requires : tie.Need-mark-at-requires Inv-loop μ-loop
 mark-at-requires c κs = search needs
 
-squared-residual-requires : tie.Need-squared-residual-requires Inv-loop μ-loop
-squared-residual-requires c κs = search needs
+squared-mark-requires : tie.Need-squared-mark-requires Inv-loop μ-loop
+squared-mark-requires c κs = search needs
 
 mul-squares : tie.Need-mul-squares Inv-loop μ-loop
 mul-squares c = let r = c .before .before .before .before .if1 .left in omega (arith, r)
 
 slice-write-squares : tie.Need-slice-write-squares Inv-loop μ-loop
-slice-write-squares c = let h = measured-same _ _ _ _ (c .before .before .before .before .before .mark-count .ensures) (c .before .before .before .before .if1 .left) (c .before .before .before .loop .inv .0) (c .before .before .before .loop .inv .1) in let r = c .before .before .before .before .if1 .left in omega (arith, h, r)
+slice-write-squares c = let h = measured-same _ _ _ _ _ (c .before .before .before .before .before .mark-count .ensures) (c .before .before .before .before .if1 .left) (c .before .before .before .loop .inv .0) (c .before .before .before .loop .inv .1) in let r = c .before .before .before .before .if1 .left in omega (arith, h, r)
 
 add-i : tie.Need-add-i Inv-loop μ-loop
 add-i c = omega arith
@@ -46,19 +46,19 @@ loop-less : tie.Need-loop-less Inv-loop μ-loop
 loop-less c = omega arith
 
 loop-again : tie.Need-loop-again Inv-loop μ-loop
-loop-again c = (omega arith, measured-next _ _ _ _ (c .before .before .before .before .before .before .before .mark-count .ensures) (c .before .before .before .before .before .before .if1 .left) (c .before .before .before .before .loop-test .taken) (c .before .before .before .mark-at .ensures) (c .before .before .squared-residual .ensures .0) (c .before .before .before .before .before .loop .inv .1) (c .before .if2 .taken) (c .before .before .squared-residual .ensures .1) (c .one-unless .ensures))
+loop-again c = (omega arith, measured-next _ _ _ _ _ (c .before .before .before .before .before .before .before .mark-count .ensures) (c .before .before .before .before .before .before .if1 .left) (c .before .before .before .before .loop-test .taken) (c .before .before .before .mark-at .ensures) (c .before .before .squared-mark .ensures .0) (c .before .before .before .before .before .loop .inv .1) (c .before .if2 .taken) (c .before .before .squared-mark .ensures .1) (c .one-unless .ensures))
 
 loop-less-2 : tie.Need-loop-less-2 Inv-loop μ-loop
 loop-less-2 c = omega arith
 
 loop-again-2 : tie.Need-loop-again-2 Inv-loop μ-loop
-loop-again-2 c = (omega arith, measured-past _ _ _ _ (c .before .before .before .before .before .before .mark-count .ensures) (c .before .before .before .before .before .if1 .left) (c .before .before .before .loop-test .taken) (c .before .before .mark-at .ensures) (c .before .squared-residual .ensures .0) (c .before .before .before .before .loop .inv .1) (c .if2 .left))
+loop-again-2 c = (omega arith, measured-past _ _ _ _ _ (c .before .before .before .before .before .before .mark-count .ensures) (c .before .before .before .before .before .if1 .left) (c .before .before .before .loop-test .taken) (c .before .before .mark-at .ensures) (c .before .squared-mark .ensures .0) (c .before .before .before .before .loop .inv .1) (c .if2 .left))
 
 same-length : tie.Need-same-length Inv-loop μ-loop
-same-length c = measured-same _ _ _ _ (c .before .before .before .mark-count .ensures) (c .before .before .if1 .left) (c .before .loop .inv .0) (c .before .loop .inv .1)
+same-length c = measured-same _ _ _ _ _ (c .before .before .before .mark-count .ensures) (c .before .before .if1 .left) (c .before .loop .inv .0) (c .before .loop .inv .1)
 
 returns-2 : tie.Need-returns-2 Inv-loop μ-loop
-returns-2 c = measured-all _ _ _ _ (c .before .before .before .mark-count .ensures) (c .before .before .if1 .left) (c .before .loop .inv .0) (c .loop-test .left) (c .before .loop .inv .1)
+returns-2 c = measured-all _ _ _ _ _ (c .before .before .before .mark-count .ensures) (c .before .before .if1 .left) (c .before .loop .inv .0) (c .loop-test .left) (c .before .loop .inv .1)
 
 pub squared-residuals-spec : {M : Type 1} → statement M
 squared-residuals-spec =
@@ -70,7 +70,7 @@ squared-residuals-spec =
     returns
     loop-holds
     mark-at-requires
-    squared-residual-requires
+    squared-mark-requires
     mul-squares
     slice-write-squares
     add-i

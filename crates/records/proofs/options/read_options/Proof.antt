@@ -1,10 +1,13 @@
 -- `records::options::read_options` meets its contract. Assumes nothing.
+use Rattle.records.proofs.Formed.{options-length, options-mark, options-filler, options-read}
+use Rattle.records.specs.Options.{viewOptions}
 use native.Mathlib.Omega.{arith}
 use borrow.Author.Needs.{needs}
-use Rattle.records.specs.Options.{viewOptions}
-use Rattle.records.proofs.Formed.{options-length, options-mark, options-filler, options-read}
 use Rattle.records.proofs.options.read_options.Statement.{statement}
 use Rattle.records.proofs.options.read_options.Tie as tie
+
+options-sized-requires : tie.Need-options-sized-requires
+options-sized-requires c κs = search needs
 
 returns : tie.Need-returns
 unfolding viewOptions
@@ -15,7 +18,7 @@ byte-at-requires c κs = search needs
 
 returns-2 : tie.Need-returns-2
 unfolding viewOptions
-returns-2 c = options-mark _ (c .before .before .if1 .left) (c .before .byte-at .ensures) (omega arith)
+returns-2 c = options-mark _ (c .before .before .before .options-sized .ensures) (c .before .before .if1 .left) (c .before .byte-at .ensures) (omega arith)
 
 zero-bytes-requires : tie.Need-zero-bytes-requires
 zero-bytes-requires c κs = search needs
@@ -36,6 +39,9 @@ word-at-requires c κs = search needs
 word-at-requires-2 : tie.Need-word-at-requires-2
 word-at-requires-2 c κs = search needs
 
+ratio-at-requires : tie.Need-ratio-at-requires
+ratio-at-requires c κs = search needs
+
 returns-4 : tie.Need-returns-4
 unfolding viewOptions
 returns-4 c = search options-read
@@ -44,6 +50,7 @@ pub read-options-spec : {M : Type 1} → statement M
 read-options-spec =
     tie.close
     (tie.spec
+    options-sized-requires
     returns
     byte-at-requires
     returns-2
@@ -53,4 +60,5 @@ read-options-spec =
     double-at-requires-2
     word-at-requires
     word-at-requires-2
+    ratio-at-requires
     returns-4)
