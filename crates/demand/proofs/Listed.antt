@@ -110,18 +110,18 @@ module _ (o : RansacOptions) (marks : List Float) (stops : List ℕ) (s₀ : Sta
   passed c t e = by-number (firstFailed (callTests n c)) (worth o c) t e
 
   own-judged : (c : Call) (t : Standing Model) → judgeOf o n c ≡ scored t
-      → (t .count ≡ countIn (o .thresh) (distancesOf (c .marks) (t .model))) × (t .rms ≡ rmsIn (o .thresh) (distancesOf (c .marks) (t .model)))
+      → (t .count ≡ countIn (o .thresh) (distancesOf (o .ratio) (c .marks) (t .model))) × (t .rms ≡ rmsIn (o .thresh) (distancesOf (o .ratio) (c .marks) (t .model)))
   unfolding worth ruleOf
-  own-judged c t e = judge-own (ruleOf o) (distancesOf (c .marks)) (c .stops) (trialOf (c .bytes)) t (passed c t e .1)
+  own-judged c t e = judge-own (ruleOf o) (distancesOf (o .ratio) (c .marks)) (c .stops) (trialOf (c .bytes)) t (passed c t e .1)
 
   clear-rms : (c : Call) (t : Standing Model) → judgeOf o n c ≡ scored t → T (clear (t .rms))
   unfolding worth
   clear-rms c t e =
-      judge-clear (ruleOf o) (distancesOf (c .marks)) (c .stops) (λ m. short m) (trialOf (c .bytes)) t (passed c t e .1)
+      judge-clear (ruleOf o) (distancesOf (o .ratio) (c .marks)) (c .stops) (λ m. short m) (trialOf (c .bytes)) t (passed c t e .1)
     where
-      short : (m : Model) → length (distancesOf (c .marks) m) ≤ 2 ^ 53
+      short : (m : Model) → length (distancesOf (o .ratio) (c .marks) m) ≤ 2 ^ 53
       short m =
-          let a = distances-count (c .marks) m in
+          let a = distances-count (o .ratio) (c .marks) m in
           let b = count (c .marks) in
           let l = call-short n c (passed c t e .0) in
           omega (arith, a, b, l)
@@ -131,20 +131,20 @@ module _ (o : RansacOptions) (marks : List Float) (stops : List ℕ) (s₀ : Sta
   module _ (s : State) (of : Of s) (w : Winner Model) (holds : viewBest (s .winner) ≡ held w) where
     module _ (l : List Float) where
       abbrev ds : List Float
-      ds = distancesOf l (w .model)
+      ds = distancesOf (o .ratio) l (w .model)
 
       abbrev xs : List ℕ
       xs = indicesIn (o .thresh) ds
 
-      inlier-at : (i : ℕ) → close (o .thresh) (getD ds i (distanceOf (w .model) noMark)) ≡ inlier (w .model) (o .thresh) (markAt l i)
+      inlier-at : (i : ℕ) → close (o .thresh) (getD ds i (distanceOf (o .ratio) (w .model) noMark)) ≡ inlier (o .ratio) (w .model) (o .thresh) (markAt l i)
       unfolding close inlier
-      inlier-at i = rw (distance-at l (w .model) i)
+      inlier-at i = rw (distance-at (o .ratio) l (w .model) i)
 
-      exact : Exactly (length (marksOf l)) (λ i. inlier (w .model) (o .thresh) (markAt l i)) xs
+      exact : Exactly (length (marksOf l)) (λ i. inlier (o .ratio) (w .model) (o .thresh) (markAt l i)) xs
       unfolding indicesIn
       exact =
-          let e = places-exactly (close (o .thresh)) (distanceOf (w .model) noMark) ds in
-          let long = distances-count l (w .model) in
+          let e = places-exactly (close (o .thresh)) (distanceOf (o .ratio) (w .model) noMark) ds in
+          let long = distances-count (o .ratio) l (w .model) in
           record {
             all = λ i h t. e .all i (rw long h) (inlier-at i ∙ t);
             no-others = λ i m. (rw (← long) (e .no-others i m .0), sym (inlier-at i) ∙ e .no-others i m .1);
@@ -164,14 +164,14 @@ module _ (o : RansacOptions) (marks : List Float) (stops : List ℕ) (s₀ : Sta
         after-is = rw (holds, of .0)
 
         indices-exact : (after : List ℕ) (r : Indexed) → Indexes s l entry r after → (k : ℕ) → r ≡ Written k
-            → Exactly (length (marksOf l)) (λ i. inlier (w .model) (o .thresh) (markAt l i)) (take k after) × (drop k after ≡ drop k entry)
+            → Exactly (length (marksOf l)) (λ i. inlier (o .ratio) (w .model) (o .thresh) (markAt l i)) (take k after) × (drop k after ≡ drop k entry)
         unfolding viewIndexed
         indices-exact after r call k e =
             let d = decided-gives order (ap viewIndexed (sym e) ∙ call .answers ∙ answer-is) in
             let whole : after ≡ xs ++ drop (length xs) entry = call .leaves ∙ after-is ∙ sym (done (xs ++ drop (length xs) entry) entry (sym (d .0))) in
             let front : take k after ≡ xs = ap (take k) whole ∙ take-at xs (drop (length xs) entry) k (sym (d .1)) in
             let back : drop k after ≡ drop k entry = ap (drop k) whole ∙ drop-at xs (drop (length xs) entry) k (sym (d .1)) ∙ ap (λ j. drop j entry) (sym (d .1)) in
-            (subst (λ ys. Exactly (length (marksOf l)) (λ i. inlier (w .model) (o .thresh) (markAt l i)) ys) (sym front) exact, back)
+            (subst (λ ys. Exactly (length (marksOf l)) (λ i. inlier (o .ratio) (w .model) (o .thresh) (markAt l i)) ys) (sym front) exact, back)
 
         -- where the order passes they are given
         given-all : 0 ≡ order → (after : List ℕ) (r : Indexed) → Indexes s l entry r after → (r ≡ Written (length xs)) × (after ≡ laidOver xs entry)
@@ -180,14 +180,14 @@ module _ (o : RansacOptions) (marks : List Float) (stops : List ℕ) (s₀ : Sta
             (indexed-one r (Written (length xs)) (call .answers ∙ answer-is ∙ sym (decided-none (length xs) passed)), call .leaves ∙ after-is ∙ sym (done (xs ++ drop (length xs) entry) entry passed))
 
     -- over the opening's marks they are given
-    pub given-as : IndexedAs s marks (indicesIn (o .thresh) (distancesOf marks (w .model)))
+    pub given-as : IndexedAs s marks (indicesIn (o .thresh) (distancesOf (o .ratio) marks (w .model)))
     given-as entry after r call room-for = given-all marks entry (order-passes o marks stops s₀ opening (s .n) (length entry) (of .1) room-for) after r call
 
-    indices-of : w .count ≡ countIn (o .thresh) (distancesOf marks (w .model)) → IndicesGiven o marks s w
+    indices-of : w .count ≡ countIn (o .thresh) (distancesOf (o .ratio) marks (w .model)) → IndicesGiven o marks s w
     unfolding indicesIn countIn
     indices-of own =
         record {
-          written = λ entry after r call room-for. given-as entry after r call room-for .0 ∙ ap Written (places-count (close (o .thresh)) 0 (distancesOf marks (w .model)) ∙ sym own);
+          written = λ entry after r call room-for. given-as entry after r call room-for .0 ∙ ap Written (places-count (close (o .thresh)) 0 (distancesOf (o .ratio) marks (w .model)) ∙ sym own);
           given = λ l entry after r call k e. indices-exact l entry after r call k e;
         }
 
@@ -197,8 +197,8 @@ module _ (o : RansacOptions) (marks : List Float) (stops : List ℕ) (s₀ : Sta
   after-list s calls answers chain = picking-rule Tried bookOf viewTold (ruleOf o) (judgementOf o n) Of step small clear-rms s₀ s calls answers of-opened fresh-opened chain
 
   own-of : (c : Call) → Carries marks stops c → (t : Standing Model) → judgeOf o n c ≡ scored t
-      → (t .count ≡ countIn (o .thresh) (distancesOf marks (t .model))) × (t .rms ≡ rmsIn (o .thresh) (distancesOf marks (t .model)))
-  own-of c good t e = subst (λ (l : List Float). (t .count ≡ countIn (o .thresh) (distancesOf l (t .model))) × (t .rms ≡ rmsIn (o .thresh) (distancesOf l (t .model)))) (good .same-marks) (own-judged c t e)
+      → (t .count ≡ countIn (o .thresh) (distancesOf (o .ratio) marks (t .model))) × (t .rms ≡ rmsIn (o .thresh) (distancesOf (o .ratio) marks (t .model)))
+  own-of c good t e = subst (λ (l : List Float). (t .count ≡ countIn (o .thresh) (distancesOf (o .ratio) l (t .model))) × (t .rms ≡ rmsIn (o .thresh) (distancesOf (o .ratio) l (t .model)))) (good .same-marks) (own-judged c t e)
 
   -- the state's winner is the book's
   winner-of : (s : State) (calls : List Call) → bookOf s ≡ bookAfter (ruleOf o) (fresh (ruleOf o)) (judged o marks calls) → (w : Winner Model) → viewBest (s .winner) ≡ held w
@@ -207,7 +207,7 @@ module _ (o : RansacOptions) (marks : List Float) (stops : List ℕ) (s₀ : Sta
   winner-of s calls e w h = ap (λ (b : Book Model). b .winner) (sym e) ∙ h
 
   abbrev Own : Model → ℕ → Float → Type 0
-  Own m k x = (k ≡ countIn (o .thresh) (distancesOf marks m)) × (x ≡ rmsIn (o .thresh) (distancesOf marks m))
+  Own m k x = (k ≡ countIn (o .thresh) (distancesOf (o .ratio) marks m)) × (x ≡ rmsIn (o .thresh) (distancesOf (o .ratio) marks m))
 
   pub calls-after : (s : State) (calls : List Call) (answers : List Told) → Called Tried s₀ calls answers s → CarriedBy o marks stops calls → AfterCalls o marks calls answers s
   calls-after s calls answers chain carried =

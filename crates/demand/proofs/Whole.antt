@@ -14,7 +14,7 @@ use Rattle.rule.specs.Answer.{refused}
 use Rattle.rule.specs.Order.{firstFailed}
 use Rattle.rule.specs.Lists.{every}
 use Rattle.rule.proofs.Tests.{neither}
-use Rattle.rule.proofs.Order.{passes, first-passed}
+use Rattle.rule.proofs.Order.{passes, first-passed, all-passed, none-failed}
 use Rattle.sheet.specs.Marks.{marksOf, shape, point, few, marksTests}
 use Rattle.sheet.specs.declared.model.Model.{Model}
 use Rattle.book.specs.Score.{Judged}
@@ -24,7 +24,8 @@ use Rattle.book.specs.Rule.{Kept, Stopped, stopped, broken, runOver, ReadTo}
 use Rattle.book.proofs.Picked.{outcomes-of, run-exact}
 use Rattle.fields.specs.Fields.{wordsOf}
 use Rattle.fields.proofs.Reading.{words-count}
-use Rattle.records.specs.Options.{thresh, confidence, iters, optionsRecord, optionsOf, optionsTests}
+use Rattle.records.specs.Options.{optionsRecord, optionsOf, optionsTests}
+use Rattle.records.proofs.Formed.{options-above-0}
 use Rattle.records.specs.Marks.{numbersIn}
 use Rattle.records.specs.declared.options.RansacOptions.{RansacOptions}
 use Rattle.records.proofs.Whole.{numbers-length}
@@ -67,9 +68,7 @@ module _ (f : Files) (winner indices : ℕ) (all : firstFailed (runTests f winne
   n = length (marksOf l)
 
   pub record Fine : Type 0 where
-    pub thresh-fine : thresh o .fails ≡ false
-    pub confidence-fine : confidence o .fails ≡ false
-    pub iters-fine : iters o .fails ≡ false
+    pub options-fine : firstFailed (optionsTests o) ≡ 0
     pub cut : length (f .marks) % 32 ≡ 0
     pub short : length (f .marks) ≤ 64000
     pub point-fine : point l .fails ≡ false
@@ -77,21 +76,17 @@ module _ (f : Files) (winner indices : ℕ) (all : firstFailed (runTests f winne
     pub stops-fine : length (f .stops) ≡ 4 * suc n
 
   fine : Fine
-  unfolding runTests orderOf optionsTests laterTests optionsRecord thresh confidence iters markBytes point few stopBytes
+  unfolding runTests orderOf laterTests optionsRecord markBytes point few stopBytes
   fine =
       let r = first-passed (optionsRecord (f .options)) _ tt all in
-      let a = first-passed (thresh o) _ tt (r .1) in
-      let b = first-passed (confidence o) _ tt (a .1) in
-      let c = first-passed (iters o) _ tt (b .1) in
-      let d = first-passed (markBytes (f .marks)) _ tt (c .1) in
+      let options = none-failed (optionsTests o) _ (r .1) in
+      let d = first-passed (markBytes (f .marks)) _ tt (all-passed (optionsTests o) _ (options-above-0 o) options ∙ r .1) in
       let m = neither (not (eqb (length (f .marks) % 32) 0)) (ltb 64000 (length (f .marks))) (d .0) in
       let e = first-passed (point l) _ tt (d .1) in
       let g = first-passed (few l) _ tt (e .1) in
       let h = first-passed (stopBytes n (length (f .stops))) _ tt (g .1) in
       record {
-        thresh-fine = a .0;
-        confidence-fine = b .0;
-        iters-fine = c .0;
+        options-fine = options;
         cut = eqb-true (length (f .marks) % 32) 0 (not-false (eqb (length (f .marks) % 32) 0) (m .0));
         short = ltb-false 64000 (length (f .marks)) (m .1);
         point-fine = e .0;
@@ -115,22 +110,20 @@ module _ (f : Files) (winner indices : ℕ) (all : firstFailed (runTests f winne
   none-left = refl
 
   pub opening-fine : 0 ≡ firstFailed (openingTests o l (wordsOf (f .stops)))
-  unfolding openingTests optionsTests marksTests
+  unfolding openingTests marksTests
   opening-fine =
       none-left
       ∙ passes (entries l (wordsOf (f .stops))) [] entries-fine
       ∙ passes (few l) _ (fine .few-fine)
       ∙ passes (point l) _ (fine .point-fine)
       ∙ passes (shape l) _ shape-fine
-      ∙ passes (iters o) _ (fine .iters-fine)
-      ∙ passes (confidence o) _ (fine .confidence-fine)
-      ∙ passes (thresh o) _ (fine .thresh-fine)
+      ∙ all-passed (optionsTests o) _ (options-above-0 o) (fine .options-fine)
 
 -- ---- the run's promise, by its answer
 
 module _ (f : Files) (r : ℕ) (winner indices winner′ indices′ : List ℕ) where
   abbrev Gives : Rattle.rule.specs.Answer.Answer (Winner Model) → Type 0
-  Gives a = Gave a (optionsOf (f .options) .thresh) (numbersIn (f .marks)) winner indices r winner′ indices′
+  Gives a = Gave a (optionsOf (f .options)) (numbersIn (f .marks)) winner indices r winner′ indices′
 
   gave-refused : (k : ℕ) → Gives (refused k) → Refuses k r winner indices winner′ indices′
   unfolding numberOf written
@@ -180,7 +173,7 @@ module _ (f : Files) (r : ℕ) (winner indices winner′ indices′ : List ℕ) 
       by-winner : (h : Held Model) → viewBest (s .winner) ≡ h → Gives (wonBy h) → GivesOf numbers s h r winner indices winner′ indices′
       unfolding GivesOf wonBy numberOf written indexBytes
       by-winner none e g = gave-refused NONE g
-      by-winner (held w) e g = (g .number-is, g .winner-is, (indicesIn (p .thresh) (distancesOf numbers (w .model)), (g .indices-is, given-as p numbers (wordsOf (f .stops)) s₀ opening s (listed .0) w e)))
+      by-winner (held w) e g = (g .number-is, g .winner-is, (indicesIn (p .thresh) (distancesOf (p .ratio) numbers (w .model)), (g .indices-is, given-as p numbers (wordsOf (f .stops)) s₀ opening s (listed .0) w e)))
 
       winner-is : viewBest (s .winner) ≡ bookAfter (ruleOf p) (fresh (ruleOf p)) (take read js) .winner
       unfolding bookOf

@@ -8,7 +8,7 @@ use native.Mathlib.Omega.{arith}
 use borrow.Author.Tests.{ne-eqb}
 use lib.Dec.{T, ltb, eqb, ltb→lt}
 use lib.ListN.{length, getD, take, drop, replicate, length-append, length-drop, take-append-drop}
-use lib.Seq.{take-at, take-add, drop-at, drop-cons, drop-drop, length-take-le}
+use lib.Seq.{take-at, take-add, take-append-le, drop-at, drop-append-le, drop-cons, drop-drop, length-take-le}
 use lib.Ieee.Fits.{and-i, and-l, and-r}
 use Rattle.rule.specs.Lists.{every, firstParts, partsOf, forEach}
 use Rattle.fields.specs.Fields.{littleEndian, fieldsOf, longsOf, byteAt, zeroBytes, allBytes, bytesOf}
@@ -118,6 +118,15 @@ packed-unpacked (w ∷ layout) l h t =
     ap (λ k. bytesOf k (littleEndian (take w l))) (sym (front-wide w layout l h)) ∙ spelled-again (take w l) (bytes-taken w l t)
     in
     ap₂ (λ a b. a ++ b) first (packed-unpacked layout (drop w l) (rest-size w layout l h) (bytes-left w l t)) ∙ take-append-drop w l
+
+-- one record behind another
+pub unpacked-append : (layout rest l m : List ℕ) → length l ≡ sizeOf layout → unpacked (layout ++ rest) (l ++ m) ≡ unpacked layout l ++ unpacked rest m
+unfolding unpacked sizeOf
+unpacked-append [] rest [] m h = refl
+unpacked-append [] rest (b ∷ l) m h = absurd (omega (arith, h))
+unpacked-append (w ∷ layout) rest l m h =
+    let inside : w ≤ length l = rw h (le-add-right w (sizeOf layout)) in
+    rw (take-append-le w l m inside, drop-append-le w l m inside) (ap (λ k. littleEndian (take w l) ∷ k) (unpacked-append layout rest (drop w l) m (rest-size w layout l h)))
 
 -- ---- fields of one width
 

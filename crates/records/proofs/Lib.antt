@@ -3,3 +3,4 @@ pub mod Reading
 pub mod Formed
 pub mod View
 pub mod Whole
+pub mod Short

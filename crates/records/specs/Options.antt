@@ -12,6 +12,7 @@ use Rattle.rule.specs.Order.{Test, firstFailed, decided}
 use Rattle.numbers.specs.Constants.{zero′, one, usualConfidence}
 use Rattle.numbers.specs.Finite.{isFinite}
 use Rattle.numbers.specs.Ratio.{ratio}
+use Rattle.fields.specs.Fields.{doubleBytes}
 use Rattle.fields.specs.Packing.{sizeOf, unpacked}
 use Rattle.records.specs.declared.options.RansacOptions.{RansacOptions}
 use Rattle.records.specs.declared.options.OptionsRead.{OptionsRead}
@@ -67,6 +68,10 @@ optionsOf l = optionsFrom (fieldsIn l)
 
 unfoldable pub optionsAnswer : List ℕ → Answer RansacOptions
 optionsAnswer l = decided (firstFailed (optionsRecord l ∷ [])) (optionsOf l)
+
+-- a record of 32 bytes with the ratio behind it that it is read with, 1
+unfoldable pub completed : List ℕ → List ℕ
+completed l = l ++ doubleBytes one
 
 -- what each case of the reader's answer stands for
 unfoldable pub viewOptions : OptionsRead → Answer RansacOptions

@@ -20,7 +20,8 @@ use Rattle.sheet.specs.declared.model.Model.{Model}
 use Rattle.book.specs.Rule.{Stopped}
 use Rattle.fields.specs.Fields.{wordsOf}
 use Rattle.fields.proofs.Reading.{words-count}
-use Rattle.records.specs.Options.{optionsRecord, optionsOf, optionsTests, thresh, confidence, iters, optionsAnswer as recordRead, viewOptions}
+use Rattle.records.proofs.Formed.{options-above-0}
+use Rattle.records.specs.Options.{optionsRecord, optionsOf, optionsTests, optionsAnswer as recordRead, viewOptions}
 use Rattle.records.specs.Marks.{numbersIn}
 use Rattle.records.specs.declared.options.RansacOptions.{RansacOptions}
 use Rattle.records.specs.declared.options.OptionsRead.{OptionsRead}
@@ -79,17 +80,17 @@ module _ (o : RansacOptions) (l : List Float) (table trials winner indices : Lis
   abbrev tests : ℕ
   tests = firstFailed (laterTests l n (length table) (length trials) (length winner) (length indices))
 
-  pub later-refused : {r : ℕ} → r ≡ tests → (r ≡ 0 → ⊥) → Gave (laterAnswer o l n table trials (length winner) (length indices)) (o .thresh) l winner indices r winner indices
+  pub later-refused : {r : ℕ} → r ≡ tests → (r ≡ 0 → ⊥) → Gave (laterAnswer o l n table trials (length winner) (length indices)) o l winner indices r winner indices
   unfolding laterAnswer
-  later-refused e h = gave-refused (o .thresh) l winner indices _ tests e h
+  later-refused e h = gave-refused o l winner indices _ tests e h
 
   pub later-given : {k : ℕ} → k ≡ tests → k ≡ 0 → {entries : List ℕ} → entries ≡ wordsOf table → {ran : Stopped Model} → ran ≡ stopOf o n l entries (recordsIn trials)
-      → {r : ℕ} {winner′ indices′ : List ℕ} → Gave (resultOf ran) (o .thresh) l winner indices r winner′ indices′
-      → Gave (laterAnswer o l n table trials (length winner) (length indices)) (o .thresh) l winner indices r winner′ indices′
+      → {r : ℕ} {winner′ indices′ : List ℕ} → Gave (resultOf ran) o l winner indices r winner′ indices′
+      → Gave (laterAnswer o l n table trials (length winner) (length indices)) o l winner indices r winner′ indices′
   unfolding laterAnswer
   later-given e z f s {r = r} {winner′ = w} {indices′ = i} g =
-      gave-passed (o .thresh) l winner indices _ tests (sym z ∙ e)
-      (subst (λ (x : Stopped Model). Gave (resultOf x) (o .thresh) l winner indices r w i) (s ∙ ap (λ (y : List ℕ). stopOf o n l y (recordsIn trials)) f) g)
+      gave-passed o l winner indices _ tests (sym z ∙ e)
+      (subst (λ (x : Stopped Model). Gave (resultOf x) o l winner indices r w i) (s ∙ ap (λ (y : List ℕ). stopOf o n l y (recordsIn trials)) f) g)
 
 -- ---- the run over marks as bytes
 
@@ -103,23 +104,19 @@ module _ (o : RansacOptions) (marks table trials winner indices : List ℕ) wher
   abbrev order : ℕ
   order = firstFailed (orderOf o marks table trials (length winner) (length indices))
 
-  above-0 : T (numbered (optionsTests o))
-  unfolding numbered optionsTests thresh confidence iters
-  above-0 = tt
-
-  by-order : {r : ℕ} → r ≡ order → (r ≡ 0 → ⊥) → Gave (optionsAnswer o marks table trials (length winner) (length indices)) (o .thresh) l winner indices r winner indices
+  by-order : {r : ℕ} → r ≡ order → (r ≡ 0 → ⊥) → Gave (optionsAnswer o marks table trials (length winner) (length indices)) o l winner indices r winner indices
   unfolding optionsAnswer
-  by-order e h = gave-refused (o .thresh) l winner indices _ order e h
+  by-order e h = gave-refused o l winner indices _ order e h
 
   module _ {k : ℕ} (first : k ≡ firstFailed (optionsTests o)) where
-    pub options-refused : (k ≡ 0 → ⊥) → Gave (optionsAnswer o marks table trials (length winner) (length indices)) (o .thresh) l winner indices k winner indices
+    pub options-refused : (k ≡ 0 → ⊥) → Gave (optionsAnswer o marks table trials (length winner) (length indices)) o l winner indices k winner indices
     unfolding orderOf
     options-refused h = by-order (first ∙ one-failed (optionsTests o) (markBytes marks ∷ later) (λ e. h (first ∙ e))) h
 
     module _ (passed : k ≡ 0) where
       to-marks : firstFailed (markBytes marks ∷ later) ≡ order
       unfolding orderOf
-      to-marks = all-passed (optionsTests o) (markBytes marks ∷ later) above-0 (sym first ∙ passed)
+      to-marks = all-passed (optionsTests o) (markBytes marks ∷ later) (options-above-0 o) (sym first ∙ passed)
 
       cut-fails : (length marks % 32 ≡ 0 → ⊥) → markBytes marks .fails ≡ true
       unfolding markBytes
@@ -133,24 +130,24 @@ module _ (o : RansacOptions) (marks table trials winner indices : List ℕ) wher
       unfolding markBytes
       fine c h = rw (eq-eqb (length marks % 32) 0 c, le-ltb 64000 (length marks) h)
 
-      shape-refused : markBytes marks .fails ≡ true → Gave (optionsAnswer o marks table trials (length winner) (length indices)) (o .thresh) l winner indices SHAPE winner indices
+      shape-refused : markBytes marks .fails ≡ true → Gave (optionsAnswer o marks table trials (length winner) (length indices)) o l winner indices SHAPE winner indices
       unfolding markBytes
       shape-refused h = by-order (stops (markBytes marks) later h ∙ to-marks) (λ z. absurd (omega (arith, z)))
 
-      pub cut-refused : (length marks % 32 ≡ 0 → ⊥) → Gave (optionsAnswer o marks table trials (length winner) (length indices)) (o .thresh) l winner indices SHAPE winner indices
+      pub cut-refused : (length marks % 32 ≡ 0 → ⊥) → Gave (optionsAnswer o marks table trials (length winner) (length indices)) o l winner indices SHAPE winner indices
       cut-refused h = shape-refused (cut-fails h)
 
       module _ (cut : length marks % 32 ≡ 0) where
-        pub long-refused : 64000 < length marks → Gave (optionsAnswer o marks table trials (length winner) (length indices)) (o .thresh) l winner indices SHAPE winner indices
+        pub long-refused : 64000 < length marks → Gave (optionsAnswer o marks table trials (length winner) (length indices)) o l winner indices SHAPE winner indices
         long-refused h = shape-refused (long-fails cut h)
 
         pub marks-given : length marks ≤ 64000 → {numbers : List Float} → numbers ≡ l → {r : ℕ} {winner′ indices′ : List ℕ}
-            → Gave (laterAnswer o numbers (length (marksOf numbers)) table trials (length winner) (length indices)) (o .thresh) numbers winner indices r winner′ indices′
-            → Gave (optionsAnswer o marks table trials (length winner) (length indices)) (o .thresh) l winner indices r winner′ indices′
+            → Gave (laterAnswer o numbers (length (marksOf numbers)) table trials (length winner) (length indices)) o numbers winner indices r winner′ indices′
+            → Gave (optionsAnswer o marks table trials (length winner) (length indices)) o l winner indices r winner′ indices′
         unfolding optionsAnswer laterAnswer
         marks-given h e {r = r} {winner′ = w} {indices′ = i} g =
-            subst (λ (k : ℕ). Gave (afterTests k (resultOf (stopOf o (length (marksOf l)) l (wordsOf table) (recordsIn trials)))) (o .thresh) l winner indices r w i) (passes (markBytes marks) later (fine cut h) ∙ to-marks)
-            (subst (λ (x : List Float). Gave (laterAnswer o x (length (marksOf x)) table trials (length winner) (length indices)) (o .thresh) x winner indices r w i) e g)
+            subst (λ (k : ℕ). Gave (afterTests k (resultOf (stopOf o (length (marksOf l)) l (wordsOf table) (recordsIn trials)))) o l winner indices r w i) (passes (markBytes marks) later (fine cut h) ∙ to-marks)
+            (subst (λ (x : List Float). Gave (laterAnswer o x (length (marksOf x)) table trials (length winner) (length indices)) o x winner indices r w i) e g)
 
 -- ---- the whole run
 
@@ -166,19 +163,19 @@ module _ (f : Files) (winner indices : List ℕ) where
   rest = orderOf o′ (f .marks) (f .stops) (f .trials) (length winner) (length indices)
 
   module _ {q : OptionsRead} (read : viewOptions q ≡ recordRead (f .options)) where
-    pub record-refused : {k : ℕ} → q ≡ Read.Refused k → Gave (runAnswer f (length winner) (length indices)) (o′ .thresh) (numbersIn (f .marks)) winner indices k winner indices
+    pub record-refused : {k : ℕ} → q ≡ Read.Refused k → Gave (runAnswer f (length winner) (length indices)) o′ (numbersIn (f .marks)) winner indices k winner indices
     unfolding viewOptions recordRead runAnswer runTests
     record-refused {k} e =
         let d = decided-refused (firstFailed (optionsRecord (f .options) ∷ [])) o′ (ap viewOptions (sym e) ∙ read) in
         let failed : k ≡ firstFailed (optionsRecord (f .options) ∷ rest) = d .0 ∙ one-failed (optionsRecord (f .options) ∷ []) rest (d .1) in
-        gave-refused (o′ .thresh) (numbersIn (f .marks)) winner indices _ (firstFailed (optionsRecord (f .options) ∷ rest)) failed (λ z. d .1 (sym (d .0) ∙ z))
+        gave-refused o′ (numbersIn (f .marks)) winner indices _ (firstFailed (optionsRecord (f .options) ∷ rest)) failed (λ z. d .1 (sym (d .0) ∙ z))
 
     pub record-given : {o : RansacOptions} → q ≡ Read.Options o → {r : ℕ} {winner′ indices′ : List ℕ}
-        → Gave (optionsAnswer o (f .marks) (f .stops) (f .trials) (length winner) (length indices)) (o .thresh) (numbersIn (f .marks)) winner indices r winner′ indices′
-        → Gave (runAnswer f (length winner) (length indices)) (o′ .thresh) (numbersIn (f .marks)) winner indices r winner′ indices′
+        → Gave (optionsAnswer o (f .marks) (f .stops) (f .trials) (length winner) (length indices)) o (numbersIn (f .marks)) winner indices r winner′ indices′
+        → Gave (runAnswer f (length winner) (length indices)) o′ (numbersIn (f .marks)) winner indices r winner′ indices′
     unfolding viewOptions recordRead runAnswer runTests optionsAnswer
     record-given {o} e {r = r} {winner′ = w} {indices′ = i} g =
         let d = decided-gives (firstFailed (optionsRecord (f .options) ∷ [])) (ap viewOptions (sym e) ∙ read) in
         let passed = all-passed (optionsRecord (f .options) ∷ []) rest (numbers-above-0 (f .options)) (d .0) in
-        subst (λ (k : ℕ). Gave (afterTests k (resultOf (stopOf o′ (length (marksOf (numbersIn (f .marks)))) (numbersIn (f .marks)) (wordsOf (f .stops)) (recordsIn (f .trials))))) (o′ .thresh) (numbersIn (f .marks)) winner indices r w i) passed
-        (subst (λ (p : RansacOptions). Gave (optionsAnswer p (f .marks) (f .stops) (f .trials) (length winner) (length indices)) (p .thresh) (numbersIn (f .marks)) winner indices r w i) (d .1) g)
+        subst (λ (k : ℕ). Gave (afterTests k (resultOf (stopOf o′ (length (marksOf (numbersIn (f .marks)))) (numbersIn (f .marks)) (wordsOf (f .stops)) (recordsIn (f .trials))))) o′ (numbersIn (f .marks)) winner indices r w i) passed
+        (subst (λ (p : RansacOptions). Gave (optionsAnswer p (f .marks) (f .stops) (f .trials) (length winner) (length indices)) p (numbersIn (f .marks)) winner indices r w i) (d .1) g)

@@ -23,6 +23,7 @@ use Rattle.book.specs.Book.{Winner}
 use Rattle.book.proofs.Clear.{count-within}
 use Rattle.fields.specs.Fields.{bytesOf, doubleBytes}
 use Rattle.fields.proofs.Writing.{word-wide, double-wide, laid-none, laid-more, laid-all}
+use Rattle.records.specs.declared.options.RansacOptions.{RansacOptions}
 use Rattle.measure.specs.Distances.{distancesOf}
 use Rattle.score.specs.Places.{indicesIn, cramped, indexed, indexCount}
 use Rattle.measure.proofs.Squares.{distances-count}
@@ -36,35 +37,35 @@ use Rattle.salghemu.specs.declared.Ran.the-variants as Ran
 
 -- ---- by the tests
 
-module _ (thresh : Float) (l : List Float) (winner indices : List ℕ) where
-  pub gave-number : {r : ℕ} (k : ℕ) → r ≡ k → Gave (refused k) thresh l winner indices r winner indices
+module _ (o : RansacOptions) (l : List Float) (winner indices : List ℕ) where
+  pub gave-number : {r : ℕ} (k : ℕ) → r ≡ k → Gave (refused k) o l winner indices r winner indices
   unfolding numberOf written
   gave-number k e = record { number-is = e; winner-is = refl; indices-is = refl }
 
   module _ (a : Answer (Winner Model)) where
-    pub gave-refused : {r : ℕ} (k : ℕ) → r ≡ k → (r ≡ 0 → ⊥) → Gave (afterTests k a) thresh l winner indices r winner indices
+    pub gave-refused : {r : ℕ} (k : ℕ) → r ≡ k → (r ≡ 0 → ⊥) → Gave (afterTests k a) o l winner indices r winner indices
     unfolding afterTests
     gave-refused zero e h = absurd (h e)
     gave-refused (suc k) e h = gave-number (suc k) e
 
-    pub gave-passed : (k : ℕ) {r : ℕ} {winner′ indices′ : List ℕ} → 0 ≡ k → Gave a thresh l winner indices r winner′ indices′ → Gave (afterTests k a) thresh l winner indices r winner′ indices′
+    pub gave-passed : (k : ℕ) {r : ℕ} {winner′ indices′ : List ℕ} → 0 ≡ k → Gave a o l winner indices r winner′ indices′ → Gave (afterTests k a) o l winner indices r winner′ indices′
     unfolding afterTests
     gave-passed zero e g = g
     gave-passed (suc k) e g = absurd (omega (arith, e))
 
   -- ---- by how the trials ended
 
-  pub gave-broken : {ran : Ran} {k : ℕ} → ran ≡ Ran.Broken k → Gave (resultOf (viewRan ran)) thresh l winner indices k winner indices
+  pub gave-broken : {ran : Ran} {k : ℕ} → ran ≡ Ran.Broken k → Gave (resultOf (viewRan ran)) o l winner indices k winner indices
   unfolding resultOf viewRan
   gave-broken {ran} {k} e = rw e (gave-number k refl)
 
-  pub gave-none : {ran : Ran} {s : State} → ran ≡ Ran.Stopped s → s .winner ≡ Nothing → Gave (resultOf (viewRan ran)) thresh l winner indices NONE winner indices
+  pub gave-none : {ran : Ran} {s : State} → ran ≡ Ran.Stopped s → s .winner ≡ Nothing → Gave (resultOf (viewRan ran)) o l winner indices NONE winner indices
   unfolding resultOf viewRan bookOf viewBest wonBy
   gave-none e h = rw (e, h) (gave-number NONE refl)
 
   pub gave-held : {ran : Ran} {s : State} → ran ≡ Ran.Stopped s → (w : State.Winner) → s .winner ≡ Held w → {winner′ indices′ : List ℕ}
-      → winner′ ≡ laidOver (winnerBytes (viewWinner w)) winner → indices′ ≡ laidOver (indexBytes thresh l (w .model)) indices
-      → Gave (resultOf (viewRan ran)) thresh l winner indices 0 winner′ indices′
+      → winner′ ≡ laidOver (winnerBytes (viewWinner w)) winner → indices′ ≡ laidOver (indexBytes o l (w .model)) indices
+      → Gave (resultOf (viewRan ran)) o l winner indices 0 winner′ indices′
   unfolding resultOf viewRan bookOf viewBest wonBy viewWinner numberOf written
   gave-held e w h p q = rw (e, h) (record { number-is = refl; winner-is = p; indices-is = q })
 
@@ -117,17 +118,17 @@ module _ (w : Winner Model) (s : List ℕ) (room : length s ≡ 88) where
 
 -- ---- the indices
 
-module _ (h : Model) (thresh : Float) (l : List Float) (entry : List ℕ) (short : length l ≤ 8000) (places : List ℕ) (wide : length places ≡ 2000)
-    {k : ℕ} (counted : k ≡ indexCount thresh (distancesOf l h) places) {after : List ℕ} (is : after ≡ indexed thresh (distancesOf l h) places)
+module _ (o : RansacOptions) (h : Model) (l : List Float) (entry : List ℕ) (short : length l ≤ 8000) (places : List ℕ) (wide : length places ≡ 2000)
+    {k : ℕ} (counted : k ≡ indexCount (o .thresh) (distancesOf (o .ratio) l h) places) {after : List ℕ} (is : after ≡ indexed (o .thresh) (distancesOf (o .ratio) l h) places)
   where
     abbrev ds : List Float
-    ds = distancesOf l h
+    ds = distancesOf (o .ratio) l h
 
     abbrev xs : List ℕ
-    xs = indicesIn thresh ds
+    xs = indicesIn (o .thresh) ds
 
     most : length ds ≤ 2000
-    most = let a = distances-count l h in let b = count l in omega (arith, a, b, short)
+    most = let a = distances-count (o .ratio) l h in let b = count l in omega (arith, a, b, short)
 
     not-cramped : cramped ds places ≡ false
     unfolding cramped
@@ -135,7 +136,7 @@ module _ (h : Model) (thresh : Float) (l : List Float) (entry : List ℕ) (short
 
     k-is : k ≡ length xs
     unfolding indexCount indicesIn countIn
-    k-is = counted ∙ rw not-cramped (sym (places-count (close thresh) 0 ds))
+    k-is = counted ∙ rw not-cramped (sym (places-count (close (o .thresh)) 0 ds))
 
     after-is : after ≡ xs ++ drop (length xs) places
     unfolding indexed
@@ -143,7 +144,7 @@ module _ (h : Model) (thresh : Float) (l : List Float) (entry : List ℕ) (short
 
     xs-few : length xs ≤ length ds
     unfolding indicesIn countIn
-    xs-few = rw (places-count (close thresh) 0 ds) (count-within thresh ds)
+    xs-few = rw (places-count (close (o .thresh)) 0 ds) (count-within (o .thresh) ds)
 
     pub inside : k ≤ length after
     inside = let m = xs-few in let n = most in let e : length after ≡ length xs + (length (drop (length xs) places)) = ap length after-is ∙ length-append xs _ in let f = k-is in omega (arith, e, f)
@@ -151,10 +152,10 @@ module _ (h : Model) (thresh : Float) (l : List Float) (entry : List ℕ) (short
     pub indices-taken : take k after ≡ xs
     indices-taken = rw (after-is, k-is) (take-at xs (drop (length xs) places) (length xs) refl)
 
-    pub indices-laid : {r : List ℕ} → 4 * length (marksOf l) ≤ length entry → r ≡ filled (forEach (bytesOf 4) (take k after)) entry → r ≡ laidOver (indexBytes thresh l h) entry
+    pub indices-laid : {r : List ℕ} → 4 * length (marksOf l) ≤ length entry → r ≡ filled (forEach (bytesOf 4) (take k after)) entry → r ≡ laidOver (indexBytes o l h) entry
     unfolding laidOver indexBytes
     indices-laid room e =
         let m = xs-few in
-        let a = distances-count l h in
+        let a = distances-count (o .ratio) l h in
         let b = forEach-length (bytesOf 4) 4 word-wide xs in
         e ∙ ap (λ ys. filled (forEach (bytesOf 4) ys) entry) indices-taken ∙ filled-is (forEach (bytesOf 4) xs) entry (omega (arith, m, a, b, room))

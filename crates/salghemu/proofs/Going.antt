@@ -5,16 +5,13 @@ use mathlib.Core.List.{List, [], _∷_}
 use Prim.Native.Nat.{ℕ, _+_, _*_, _/_, _≤_, _<_}
 use native.Mathlib.Numerals.{add-one}
 use native.Mathlib.Omega.{arith}
-use borrow.Author.Tests.{le-leb, lt-leb, ltb-false}
-use lib.Dec.{ltb, eqb}
+use borrow.Author.Tests.{le-leb, lt-leb}
 use lib.ListN.{length, take, drop, length-map, List·getD-map, drop-of-length-le}
 use lib.Seq.{drop-cons}
 use lib.Ieee.{Float}
 use Rattle.rule.specs.Answer.{refused, gives}
 use Rattle.rule.specs.Order.{firstFailed}
 use Rattle.rule.specs.Lists.{partsOf}
-use Rattle.rule.proofs.Tests.{neither}
-use Rattle.rule.proofs.Order.{first-passed}
 use Rattle.rule.proofs.Lists.{parts-count, part-at}
 use Rattle.sheet.specs.Marks.{marksOf, marksTests}
 use Rattle.sheet.specs.declared.model.Model.{Model}
@@ -24,7 +21,8 @@ use Rattle.book.specs.Calls.{tried, isRefusal, numberIn}
 use Rattle.book.specs.Rule.{Stopped, broken, runOver}
 use Rattle.book.proofs.Along.{Counts, counts-fresh, counts-next, tried-called, called-open}
 use Rattle.book.proofs.Runs.{run-out, run-late, run-on, run-broken}
-use Rattle.records.specs.Options.{thresh, confidence, iters, optionsTests}
+use Rattle.records.specs.Options.{optionsTests}
+use Rattle.records.proofs.Formed.{few-iters}
 use Rattle.records.specs.declared.options.RansacOptions.{RansacOptions}
 use Rattle.judge.specs.Judging.{ruleOf, Call, judgeOf, judgeTested}
 use Rattle.pick.specs.Run.{Run, Booking, bookOf, viewState}
@@ -36,15 +34,6 @@ use Rattle.pick.specs.declared.advancing.Next.the-variants as Nexts
 use Rattle.pick.proofs.Order.{same-judged}
 use Rattle.salghemu.specs.Whole.{recordsIn, callWith, judgedIn, stopOf, viewRan}
 use Rattle.salghemu.specs.declared.Ran.the-variants as Ran
-
--- max_iters is at most 100,000 where the options passed
-few-iters : (o : RansacOptions) → 0 ≡ firstFailed (optionsTests o) → o .«max_iters» ≤ 100000
-unfolding optionsTests thresh confidence iters
-few-iters o h =
-    let a = first-passed (thresh o) _ tt (sym h) in
-    let b = first-passed (confidence o) _ tt (a .1) in
-    let c = first-passed (iters o) [] tt (b .1) in
-    ltb-false 100000 (o .«max_iters») (neither (eqb (o .«max_iters») 0) (ltb 100000 (o .«max_iters»)) (c .0) .1)
 
 -- ---- what a step without an outcome says
 
@@ -138,7 +127,7 @@ module _ (o : RansacOptions) (l : List Float) (table trials : List ℕ) where
           ap (λ (p : RansacOptions). tried (ruleOf p) (bookOf s) (judgeTested p (s .n) call)) (g .options)
           ∙ ap (λ (k : ℕ). tried (ruleOf o) (bookOf s) (judgeTested o k call)) (g .marks)
           ∙ ap (λ (j : Judged Model). tried (ruleOf o) (bookOf s) j) (same-judged o n call refl refl tested refl)
-          ∙ tried-called (ruleOf o) (few-iters o valid) (bookOf s) (judged bytes) (g .counts)
+          ∙ tried-called (ruleOf o) (few-iters o (sym valid)) (bookOf s) (judged bytes) (g .counts)
           ∙ called-is
 
       owed-is : runOver (ruleOf o) (bookOf s) (judged bytes ∷ drop (i + 1) js) ≡ whole

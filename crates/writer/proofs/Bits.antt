@@ -14,7 +14,7 @@ use Rattle.rule.proofs.Tests.{is-test}
 use Rattle.numbers.specs.Constants.{zero′}
 use Rattle.numbers.specs.Finite.{isFinite, allFinite}
 use Rattle.fields.specs.Fields.{bytesOf, doubleBytes}
-use Rattle.fields.proofs.Packing.{Fit, none, more}
+use Rattle.fields.proofs.Packing.{Fit, more}
 
 -- ---- one number
 

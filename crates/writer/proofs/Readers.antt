@@ -3,38 +3,42 @@
 use mathlib.Core.Path.{_≡_, refl, sym, ap, ap₂, subst, _∙_}
 use mathlib.Core.Bool.{Bool, true, false, not, _&&_}
 use mathlib.Core.List.{List, [], _∷_, _++_, map, append-nil}
-use Prim.Native.Nat.{ℕ, _+_, _*_, _/_, _%_}
+use Prim.Native.Nat.{ℕ, _+_, _*_, _/_, _%_, _≤_}
 use native.Mathlib.Omega.{arith}
-use borrow.Author.Tests.{eq-eqb}
+use borrow.Author.Tests.{eq-eqb, ne-eqb}
 use lib.Dec.{T, eqb}
-use lib.ListN.{length, getD, replicate, length-map, length-replicate}
+use lib.ListN.{length, getD, drop, replicate, length-map, length-replicate}
 use lib.Ieee.{Float, binary64, fits, ofBits, toBits}
 use lib.Ieee.Fits.{and-i, and-l, and-r}
 use Rattle.rule.specs.Refusal.{RECORD}
 use Rattle.rule.specs.Answer.{refused, gives}
 use Rattle.rule.specs.Order.{Test, firstFailed, decided}
 use Rattle.rule.specs.Lists.{every, partsOf, forEach}
-use Rattle.rule.proofs.Order.{passes, first-passed, one-failed, decided-gives, decided-refused, decided-some}
+use Rattle.rule.proofs.Order.{passes, first-passed, one-failed, decided-none, decided-gives, decided-refused, decided-some}
 use Rattle.rule.proofs.Lists.{placesAt, one-by-one, forEach-append, forEach-length}
-use Rattle.numbers.specs.Constants.{farthest}
+use Rattle.rule.proofs.Tests.{clash}
+use Rattle.numbers.specs.Constants.{one, farthest}
 use Rattle.numbers.specs.Finite.{allFinite}
 use Rattle.sheet.specs.Marks.{marksOf, markNumbers, noMark, point, shape, allWithin, few, marksTests}
 use Rattle.sheet.specs.declared.marks.Mark.{Mark}
-use Rattle.fields.specs.Fields.{fieldsOf, longsOf, doublesOf, allBytes, doubleBytes}
+use Rattle.fields.specs.Fields.{fieldsOf, longsOf, doublesOf, allBytes, bytesOf, doubleBytes}
 use Rattle.fields.specs.Packing.{sizeOf, unpacked, packed}
 use Rattle.fields.proofs.Writing.{double-wide}
 use Rattle.fields.proofs.Packing.{Fit, none, fit-length, unpacked-packed, unpacked-even, unpacked-fit, even-size, packed-even, packed-unpacked, every-append}
-use Rattle.records.specs.Options.{optionsLayout, optionsSound, optionsFrom, optionsFormed, optionsRecord, optionsOf, optionsTests}
+use Rattle.records.specs.Options.{optionsLayout, layoutBy, fieldsIn, optionsSound, optionsFrom, optionsFormed, optionsRecord, optionsOf, optionsTests, completed}
 use Rattle.records.specs.Trial.{trialLayout, trialSound, trialFrom, trialFormed, trialRecord, trialOf, trialAnswer}
 use Rattle.records.specs.Marks.{marksIn, numbersIn}
 use Rattle.records.specs.declared.options.RansacOptions.{RansacOptions}
+use Rattle.records.proofs.Placed.{short-size, options-size}
+use Rattle.records.proofs.Short.{completed-size, short-formed, short-options}
 use Rattle.records.proofs.Whole.{numbers-whole}
 use Rattle.judge.specs.Judging.{entries}
 use Rattle.pick.specs.Opening.{openingTests, freshRun, openingAnswer, recordAnswer}
-use Rattle.writer.specs.Format.{sized, reads, recordOf}
-use Rattle.writer.specs.Formats.{optionsAsked, optionsFormat, markLayout, markFrom, markFormat, trialFormat}
+use Rattle.writer.specs.Format.{sized, reads, asNumbers, numbersRead, recordOf, writerAnswer, written}
+use Rattle.writer.specs.Formats.{optionsNumbers, optionsAsked, optionsFormat, markLayout, markFrom, markFormat, trialFormat}
 use Rattle.writer.proofs.Bits.{numbers-back, fields-fit, bits-again, bits-written}
 use Rattle.writer.proofs.OfMark.{mark-size, packs, within-finite}
+use Rattle.writer.proofs.OfOptions.{options-faithful}
 
 -- two tests of one number are as one
 two-as-one : (a b : Bool) (k : ℕ) (ts : List Test)
@@ -49,30 +53,67 @@ module _ (l : List ℕ) where
   abbrev o : RansacOptions
   o = optionsOf l
 
-  options-tests : reads optionsFormat l ≡ decided (firstFailed (optionsRecord l ∷ optionsTests o)) o
-  unfolding reads sized optionsFormat optionsAsked optionsRecord optionsFormed optionsOf
-  options-tests =
-      ap (λ k. decided k (optionsFrom (unpacked optionsLayout l)))
-      (two-as-one (eqb (length l) (sizeOf optionsLayout)) (optionsSound (unpacked optionsLayout l)) RECORD (optionsTests (optionsFrom (unpacked optionsLayout l))))
+  abbrev asked : List Test
+  asked = optionsRecord l ∷ optionsTests o
+
+  -- the format is that of 40 bytes
+  options-tests : (length l ≡ 32 → ⊥) → reads optionsFormat l ≡ decided (firstFailed asked) o
+  unfolding reads sized optionsFormat optionsAsked optionsRecord optionsFormed optionsOf fieldsIn layoutBy
+  options-tests long =
+      rw (short-size, ne-eqb (length l) 32 long)
+      (ap (λ k. decided k (optionsFrom (unpacked optionsLayout l)))
+      (two-as-one (eqb (length l) (sizeOf optionsLayout)) (optionsSound (unpacked optionsLayout l)) RECORD (optionsTests (optionsFrom (unpacked optionsLayout l)))))
+
+  not-short : (p : RansacOptions) → reads optionsFormat l ≡ gives p → length l ≡ 32 → ⊥
+  unfolding reads sized optionsFormat
+  not-short p e size =
+      let d = decided-gives (firstFailed (sized optionsFormat l ∷ optionsAsked (unpacked optionsLayout l))) (sym e) in
+      clash (rw (size, options-size)) (first-passed (sized optionsFormat l) (optionsAsked (unpacked optionsLayout l)) tt (d .0) .0)
 
   module _ (marks : List Float) (stops : List ℕ) where
     abbrev rest : List Test
     rest = marksTests marks ++ (few marks ∷ entries marks stops ∷ [])
 
     -- whatever the marks and the stops are
-    pub opening-refuses : (k : ℕ) → reads optionsFormat l ≡ refused k → refused k ≡ recordAnswer l marks stops
+    pub opening-refuses : (length l ≡ 32 → ⊥) → (k : ℕ) → reads optionsFormat l ≡ refused k → refused k ≡ recordAnswer l marks stops
     unfolding recordAnswer openingTests
-    opening-refuses k e =
-        let d = decided-refused (firstFailed (optionsRecord l ∷ optionsTests o)) o (sym e ∙ options-tests) in
-        let failed : k ≡ firstFailed ((optionsRecord l ∷ optionsTests o) ++ rest) = d .0 ∙ one-failed (optionsRecord l ∷ optionsTests o) rest (d .1) in
-        ap refused failed ∙ decided-some (firstFailed ((optionsRecord l ∷ optionsTests o) ++ rest)) _ (λ z. d .1 (sym (d .0) ∙ failed ∙ z))
+    opening-refuses long k e =
+        let d = decided-refused (firstFailed asked) o (sym e ∙ options-tests long) in
+        let failed : k ≡ firstFailed (asked ++ rest) = d .0 ∙ one-failed asked rest (d .1) in
+        ap refused failed ∙ decided-some (firstFailed (asked ++ rest)) _ (λ z. d .1 (sym (d .0) ∙ failed ∙ z))
 
     pub opening-reads : (p : RansacOptions) → reads optionsFormat l ≡ gives p → recordAnswer l marks stops ≡ openingAnswer p marks stops
     unfolding recordAnswer openingAnswer optionsRecord
     opening-reads p e =
-        let d = decided-gives (firstFailed (optionsRecord l ∷ optionsTests o)) (sym e ∙ options-tests) in
+        let d = decided-gives (firstFailed asked) (sym e ∙ options-tests (not-short p e)) in
         let formed = first-passed (optionsRecord l) (optionsTests o) tt (d .0) .0 in
         ap (λ k. decided k (freshRun o (length (marksOf marks)))) (sym (passes (optionsRecord l) (openingTests o marks stops) formed)) ∙ ap (λ q. openingAnswer q marks stops) (sym (d .1))
+
+  -- ---- a record of 32 bytes
+
+  module _ (size : length l ≡ 32) where
+    -- the opening reads it as the one of 40 that has 1 behind it
+    pub opening-completes : (marks : List Float) (stops : List ℕ) → recordAnswer l marks stops ≡ recordAnswer (completed l) marks stops
+    unfolding recordAnswer optionsRecord
+    opening-completes marks stops = rw (short-formed l size, short-options l size)
+
+-- and that one is what the writer makes of its numbers
+module _ (l : List ℕ) (size : length l ≡ 32) (bytes : T (allBytes l)) (accepted : firstFailed (optionsRecord l ∷ optionsTests (optionsOf l)) ≡ 0) where
+  completed-bytes : T (allBytes (completed l))
+  unfolding completed allBytes doubleBytes bytesOf every toBits ofBits
+  completed-bytes = subst T (sym (every-append _ l (doubleBytes one))) (and-i (allBytes l) (allBytes (doubleBytes one)) bytes tt)
+
+  completed-read : numbersRead optionsFormat (completed l) ≡ gives (optionsNumbers (optionsOf l))
+  unfolding numbersRead asNumbers optionsRecord optionsFormat
+  completed-read =
+      let long : length (completed l) ≡ 32 → ⊥ = λ e. (let k = completed-size l size in omega (arith, e, k)) in
+      let none : firstFailed (optionsRecord (completed l) ∷ optionsTests (optionsOf (completed l))) ≡ 0 = rw (← short-formed l size, ← short-options l size) accepted in
+      ap (asNumbers optionsNumbers) (options-tests (completed l) long ∙ sym (decided-none (optionsOf (completed l)) (sym none))) ∙ ap (λ q. gives (optionsNumbers q)) (sym (short-options l size))
+
+  pub short-made : (entry : List ℕ) → 40 ≤ length entry
+      → (writerAnswer optionsFormat (optionsNumbers (optionsOf l)) entry ≡ 0) × (written optionsFormat (optionsNumbers (optionsOf l)) entry ≡ completed l ++ drop 40 entry)
+  unfolding optionsFormat
+  short-made entry room = rw (← completed-size l size) (options-faithful .made (completed l) (optionsNumbers (optionsOf l)) entry completed-bytes completed-read (rw options-size room))
 
 -- ---- a trial
 

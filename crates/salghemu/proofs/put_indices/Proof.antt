@@ -15,10 +15,10 @@ write-inliers-requires : tie.Need-write-inliers-requires
 write-inliers-requires c κs = search needs
 
 array-share-prefix-places : tie.Need-array-share-prefix-places
-array-share-prefix-places c = inside _ _ _ [] (c .before .before .before .before .before .before .pre .0) _ refl (c .before .write-inliers .ensures .0) (c .before .write-inliers .ensures .1 .1)
+array-share-prefix-places c = inside (c .before .before .before .before .before .before .args .o) _ _ [] (c .before .before .before .before .before .before .pre .0) _ refl (c .before .write-inliers .ensures .0) (c .before .write-inliers .ensures .1 .1)
 
 slice-aggregate-write-words : tie.Need-slice-aggregate-write-words
-slice-aggregate-write-words c = sym (length-take-le _ _ (inside _ _ _ [] (c .before .before .before .before .before .before .before .pre .0) _ refl (c .before .before .write-inliers .ensures .0) (c .before .before .write-inliers .ensures .1 .1)))
+slice-aggregate-write-words c = sym (length-take-le _ _ (inside (c .before .before .before .before .before .before .before .args .o) _ _ [] (c .before .before .before .before .before .before .before .pre .0) _ refl (c .before .before .write-inliers .ensures .0) (c .before .before .write-inliers .ensures .1 .1)))
 
 write-words-requires : tie.Need-write-words-requires
 write-words-requires c κs = search needs
