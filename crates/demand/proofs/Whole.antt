@@ -55,6 +55,11 @@ unfolding every
 every-map test f [] = refl
 every-map test f (a ∷ l) = ap (λ r. test (f a) && r) (every-map test f l)
 
+-- the run's trials are the calls
+pub stop-is : (p : RansacOptions) (m : ℕ) (f : Files) → stopOf p m (numbersIn (f .marks)) (wordsOf (f .stops)) (recordsIn (f .trials)) ≡ runOver (ruleOf p) (fresh (ruleOf p)) (map (judgeOf p m) (callsOf f))
+unfolding stopOf judgedIn callsOf
+stop-is p m f = ap (runOver (ruleOf p) (fresh (ruleOf p))) (map-twice (judgeOf p m) (callWith (numbersIn (f .marks)) (wordsOf (f .stops))) (recordsIn (f .trials)))
+
 -- ---- what the run's tests say where they all pass
 
 module _ (f : Files) (winner indices : ℕ) (all : firstFailed (runTests f winner indices) ≡ 0) where
@@ -144,10 +149,6 @@ module _ (f : Files) (r : ℕ) (winner indices winner′ indices′ : List ℕ) 
     abbrev js : List (Judged Model)
     js = map (judgeOf p m) (callsOf f)
 
-    stop-is : stopOf p m numbers (wordsOf (f .stops)) (recordsIn (f .trials)) ≡ runOver (ruleOf p) (fresh (ruleOf p)) js
-    unfolding stopOf judgedIn callsOf
-    stop-is = ap (runOver (ruleOf p) (fresh (ruleOf p))) (map-twice (judgeOf p m) (callWith numbers (wordsOf (f .stops))) (recordsIn (f .trials)))
-
     -- the winner of the calls one by one, and their indices
     module _ (s₀ s : State) (answers : List Told) (read : ℕ) (opening : Opening p numbers (wordsOf (f .stops)) s₀) (chain : Called Tried s₀ (take read (callsOf f)) answers s) where
       listed : ((s .options ≡ p) × (s .n ≡ m)) × Kept (ruleOf p) (judgementOf p m) (take read (callsOf f)) (map viewTold answers) (bookOf s)
@@ -191,7 +192,7 @@ module _ (f : Files) (r : ℕ) (winner indices winner′ indices′ : List ℕ) 
       result = runOver (ruleOf p) (fresh (ruleOf p)) js
 
       of-result : Gives (resultOf result)
-      of-result = subst (λ (x : Stopped Model). Gives (resultOf x)) stop-is g
+      of-result = subst (λ (x : Stopped Model). Gives (resultOf x)) (stop-is p m f) g
 
       abbrev exact : (read : ℕ) × ReadTo (ruleOf p) js result read
       exact = run-exact (ruleOf p) js

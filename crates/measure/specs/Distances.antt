@@ -8,15 +8,19 @@ use lib.ListN.{length}
 use lib.Ieee.{Float}
 use Rattle.rule.specs.Lists.{countOf}
 use Rattle.numbers.specs.Constants.{infinity}
-use Rattle.numbers.specs.Measure.{ifCounted}
+use Rattle.numbers.specs.Measure.{asDistance, ifCounted}
 use Rattle.sheet.specs.Marks.{marksOf, pointOf}
-use Rattle.sheet.specs.Distance.{projectionOf, beyondUnder, squaredResidual, distanceOf}
+use Rattle.sheet.specs.Distance.{projectionOf, beyondUnder, squaredResidual, distanceOf, plainMeasureOf}
 use Rattle.sheet.specs.declared.marks.Mark.{Mark}
 use Rattle.sheet.specs.declared.marks.Side.the-variants.{Sheet, Pixel}
 use Rattle.sheet.specs.declared.model.Model.{Model}
 
 unfoldable pub distancesOf : (ratio : Float) → List Float → Model → List Float
 distancesOf ratio l h = map (distanceOf ratio h) (marksOf l)
+
+-- 01's own, from before there was a ratio
+unfoldable pub plainDistancesOf : List Float → Model → List Float
+plainDistancesOf l h = map (λ m. asDistance (plainMeasureOf h m)) (marksOf l)
 
 unfoldable pub beyondOf : List Float → Model → ℕ
 beyondOf l h = countOf (beyondUnder h) (marksOf l)

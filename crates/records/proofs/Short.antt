@@ -28,7 +28,7 @@ module _ (l : List ℕ) (size : length l ≡ 32) where
   longer : length (completed l) ≡ 32 → ⊥
   longer e = let k = completed-size in omega (arith, e, k)
 
-  short-fields : fieldsIn l ≡ unpacked shortLayout l
+  pub short-fields : fieldsIn l ≡ unpacked shortLayout l
   unfolding fieldsIn layoutBy
   short-fields = rw (short-size, eq-eqb (length l) 32 size)
 
@@ -41,6 +41,10 @@ module _ (l : List ℕ) (size : length l ≡ 32) where
   pub short-formed : optionsFormed l ≡ optionsFormed (completed l)
   unfolding optionsFormed optionsSound unpacked shortLayout
   short-formed = rw (← short-sized (length l) size, ← long-sized (length (completed l)) longer, completed-size, short-fields, long-fields)
+
+  pub short-sound : optionsFormed l ≡ optionsSound (unpacked shortLayout l)
+  unfolding optionsFormed
+  short-sound = rw (← short-sized (length l) size, short-fields)
 
   pub short-options : optionsOf l ≡ optionsOf (completed l)
   unfolding optionsOf optionsFrom ratioFrom unpacked shortLayout ofBits toBits

@@ -54,7 +54,7 @@ unfoldable pub laterTests : (numbers : List Float) → (n stops trials winner in
 laterTests numbers n stops trials winner indices =
     point numbers ∷ few numbers ∷ stopBytes n stops ∷ trialBytes trials ∷ room 88 winner ∷ room (4 * n) indices ∷ []
 
--- 2 to 8, 1, 9
+-- 2, 3, 4, 16, 5 to 8, 1, 9
 unfoldable pub orderOf : RansacOptions → (marks stops trials : List ℕ) → (winner indices : ℕ) → List Test
 orderOf o marks stops trials winner indices =
     optionsTests o ++ (markBytes marks ∷ laterTests (numbersIn marks) (length (marksOf (numbersIn marks))) (length stops) (length trials) winner indices)
