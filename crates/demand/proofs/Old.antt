@@ -16,10 +16,9 @@ use Rattle.sheet.proofs.Ratio.{measure-one}
 use Rattle.book.specs.Score.{turned-down, judgeTrial, Judgement}
 use Rattle.book.specs.Book.{fresh}
 use Rattle.book.specs.Rule.{Kept, runOver}
-use Rattle.book.specs.Calls.{Called}
-use Rattle.fields.specs.Fields.{wordsOf, bytesOf}
+use Rattle.fields.specs.Fields.{bytesOf}
 use Rattle.fields.specs.Packing.{unpacked}
-use Rattle.records.specs.Options.{shortLayout, fieldsIn, optionsFrom, optionsRecord, optionsOf, optionsAnswer, usualOptions, optionsTests}
+use Rattle.records.specs.Options.{shortLayout, optionsFrom, optionsRecord, optionsOf, optionsAnswer, usualOptions, optionsTests}
 use Rattle.records.specs.Trial.{trialOf}
 use Rattle.records.specs.Marks.{numbersIn}
 use Rattle.records.specs.declared.options.RansacOptions.{RansacOptions}
@@ -31,9 +30,8 @@ use Rattle.score.specs.Places.{indicesIn}
 use Rattle.judge.specs.Judging.{ruleOf, Call, entries, callTests, worth, judgedBy, judgeOf, beyondBy, judgementOf}
 use Rattle.pick.specs.Run.{bookOf}
 use Rattle.pick.specs.Opening.{openingTests}
-use Rattle.pick.specs.declared.run_state.State.{State}
-use Rattle.salghemu.specs.Whole.{Files, orderOf, runTests, recordsIn, callWith, callsOf, judgedIn, stopOf, resultOf, afterTests, runAnswer, indexBytes, written}
-use Rattle.demand.specs.Demand.{Told, viewTold, Tried, Opening, CarriedBy, Ran}
+use Rattle.salghemu.specs.Whole.{Files, orderOf, runTests, callsOf, resultOf, afterTests, runAnswer, indexBytes, written}
+use Rattle.demand.specs.Demand.{viewTold, Ran}
 use Rattle.demand.specs.OldBits.{oldRecord, oldTests, oldJudgement, oldRunTests, oldAnswer, OldRan, OldBits}
 use Rattle.demand.proofs.Whole.{stop-is}
 use Rattle.demand.proofs.Demanded.{demand-3}

@@ -19,7 +19,7 @@ use Rattle.book.specs.Score.{turned-down, Judgement, judgeTrial}
 use Rattle.book.specs.Book.{Winner, fresh}
 use Rattle.book.specs.Rule.{Kept, runOver}
 use Rattle.book.specs.Calls.{Called}
-use Rattle.fields.specs.Fields.{wordsOf, bytesOf}
+use Rattle.fields.specs.Fields.{bytesOf}
 use Rattle.fields.specs.Packing.{unpacked}
 use Rattle.records.specs.Options.{shortLayout, optionsSound, optionsFrom, optionsAnswer, optionsOf, usualOptions, thresh, confidence, iters}
 use Rattle.records.specs.Trial.{trialOf}
