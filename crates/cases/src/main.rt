@@ -1,7 +1,7 @@
 // The cases of document 01, 'Sheets to try' and 'Refusals', of the leaves and of a sheet's geometry,
 // and some traps beside them: each with what it answers, doubles as 16 hexadecimal digits. The file
-// `stdout` has the answers that 01 gives, and `beyond` by document 02, order 2. Those of the picker are
-// run by the comparison with the Rust.
+// `stdout` has the answers that 01 gives, and of document 02 `beyond` by order 2 and the row ratios by
+// order 3. Those of the picker are run by the comparison with the Rust.
 use libc::STDOUT_FILENO;
 use line::Collinear;
 use numbers::Quadratic;
@@ -186,8 +186,8 @@ fn show_rows(name: &[u8], marks: [f64; 16], n: usize, room: usize)
     print(b"\n");
 }
 
-fn print_distance(h: Model, m: Mark) {
-    let answer = sheet::distance(h, m);
+fn print_distance(h: Model, m: Mark, ratio: f64) {
+    let answer = sheet::distance(h, m, ratio);
     match answer {
         Measured::Distance(d) => print_double(d),
         Measured::Beyond => print(b" beyond"),
@@ -195,20 +195,20 @@ fn print_distance(h: Model, m: Mark) {
     }
 }
 
-fn show_distance(name: &[u8], h: Model, m: Mark) {
+fn show_distance(name: &[u8], h: Model, m: Mark, ratio: f64) {
     print(name);
-    print_distance(h, m);
+    print_distance(h, m, ratio);
     print(b"\n");
 }
 
 // The five marks of 01's square, the last printed three too far down.
 fn show_square(name: &[u8], h: Model) {
     print(name);
-    print_distance(h, at(0.0, 0.0, 0.0, 0.0));
-    print_distance(h, at(100.0, 0.0, 100.0, 0.0));
-    print_distance(h, at(100.0, 100.0, 100.0, 100.0));
-    print_distance(h, at(0.0, 100.0, 0.0, 100.0));
-    print_distance(h, at(50.0, 50.0, 50.0, 53.0));
+    print_distance(h, at(0.0, 0.0, 0.0, 0.0), 1.0);
+    print_distance(h, at(100.0, 0.0, 100.0, 0.0), 1.0);
+    print_distance(h, at(100.0, 100.0, 100.0, 100.0), 1.0);
+    print_distance(h, at(0.0, 100.0, 0.0, 100.0), 1.0);
+    print_distance(h, at(50.0, 50.0, 50.0, 53.0), 1.0);
     print(b"\n");
 }
 
@@ -350,19 +350,32 @@ fn distances() {
         b"distance under I of (50,50) at pixel (50,53):",
         model(0.0, 0.0, 0.0, 1.0),
         middle,
+        1.0,
     );
-    show_distance(b"distance with h5 = 3:", model(3.0, 0.0, 0.0, 1.0), middle);
+    show_distance(
+        b"distance with h5 = 3:",
+        model(3.0, 0.0, 0.0, 1.0),
+        middle,
+        1.0,
+    );
     show_distance(
         b"distance with h5 = 1e200:",
         model(1e200, 0.0, 0.0, 1.0),
         middle,
+        1.0,
     );
     show_distance(
         b"distance with h8 a NaN, and v = 2e9:",
         model(0.0, 0.0, 0.0, none),
         wide,
+        1.0,
     );
-    show_distance(b"distance with v = 2e9:", model(0.0, 0.0, 0.0, 1.0), wide);
+    show_distance(
+        b"distance with v = 2e9:",
+        model(0.0, 0.0, 0.0, 1.0),
+        wide,
+        1.0,
+    );
 }
 
 fn horizons() {
@@ -384,12 +397,62 @@ fn horizons() {
         b"distance with s a NaN:",
         model(0.0, 1e308, -1e308, 1.0),
         far,
+        1.0,
     );
     show_distance(
         b"distance with s infinite:",
         model(0.0, 1e300, 0.0, 1.0),
         far,
+        1.0,
     );
+}
+
+// A mark three too far down, and one that is four too far right and one and a half too far down, by
+// ratios within the limits and outside.
+fn ratios() {
+    let here = model(0.0, 0.0, 0.0, 1.0);
+    let low = at(50.0, 50.0, 50.0, 53.0);
+    let aside = at(50.0, 50.0, 54.0, 51.5);
+    let infinity = 1.0 / 0.0;
+    show_distance(b"distance by ratio 2:", here, low, 2.0);
+    show_distance(b"distance by ratio 0.5:", here, low, 0.5);
+    show_distance(b"distance of (4,1.5) off by ratio 2:", here, aside, 2.0);
+    show_distance(b"distance by ratio 0.01:", here, low, 0.01);
+    show_distance(b"distance by ratio 100:", here, low, 100.0);
+    show_distance(
+        b"distance by the ratio before 0.01:",
+        here,
+        low,
+        0.009999999999999998,
+    );
+    show_distance(
+        b"distance by the ratio after 100:",
+        here,
+        low,
+        100.00000000000001,
+    );
+    show_distance(b"distance by ratio 0:", here, low, 0.0);
+    show_distance(b"distance by ratio -1:", here, low, -1.0);
+    show_distance(b"distance by ratio infinity:", here, low, infinity);
+    show_distance(b"distance by ratio NaN:", here, low, infinity - infinity);
+}
+
+// 1, then 6, then 16; beyond where none of them is.
+fn ratios_in_order() {
+    let behind = model(0.0, 0.0, 0.0, -1.0);
+    let none = model(0.0, 0.0, 0.0, 0.0 / 0.0);
+    let low = at(50.0, 50.0, 50.0, 53.0);
+    let wide = at(50.0, 50.0, 50.0, 2e9);
+    show_distance(
+        b"distance with h8 a NaN, v = 2e9 and ratio 0:",
+        none,
+        wide,
+        0.0,
+    );
+    show_distance(b"distance with h8 a NaN and ratio 0:", none, low, 0.0);
+    show_distance(b"distance with v = 2e9 and ratio 0:", behind, wide, 0.0);
+    show_distance(b"distance with h8 = -1 and ratio 0:", behind, low, 0.0);
+    show_distance(b"distance with h8 = -1 and ratio 2:", behind, low, 2.0);
 }
 
 fn main() {
@@ -401,4 +464,6 @@ fn main() {
     rows();
     distances();
     horizons();
+    ratios();
+    ratios_in_order();
 }

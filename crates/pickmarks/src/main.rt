@@ -89,8 +89,8 @@ fn print_all(record: &[u8], marks: &[f64], stops: &[u32]) {
 }
 
 fn main() {
-    // one byte more than a record has, so that a longer file has a wrong length too
-    let mut record = [0u8; 33];
+    // one byte more than the longer kind of record has, so that a longer file has a wrong length too
+    let mut record = [0u8; 41];
     let bytes = files::read_file(b"options.bin", &mut record);
     let mut marks = [0.0; 8000];
     let numbers = files::read_marks(&mut marks);

@@ -111,8 +111,9 @@ pub extern "C" fn probe_distance_told(
     y: f64,
     u: f64,
     v: f64,
+    ratio: f64,
 ) -> u32
-    ensures { λ r. ⌜ r ≡ measureTold (distanceAnswer (modelOf h0 h1 h2 h3 h4 h5 h6 h7 h8) (markOf x y u v)) ⌝ }
+    ensures { λ r. ⌜ r ≡ measureTold (distanceAnswer ratio (modelOf h0 h1 h2 h3 h4 h5 h6 h7 h8) (markOf x y u v)) ⌝ }
 {
     let h = Model {
         h0,
@@ -125,7 +126,7 @@ pub extern "C" fn probe_distance_told(
         h7,
         h8,
     };
-    told(sheet::distance(h, Mark { x, y, u, v }))
+    told(sheet::distance(h, Mark { x, y, u, v }, ratio))
 }
 
 #[no_mangle]
@@ -143,8 +144,9 @@ pub extern "C" fn probe_distance(
     y: f64,
     u: f64,
     v: f64,
+    ratio: f64,
 ) -> f64
-    ensures { λ r. ⌜ r ≡ valueOf (distanceAnswer (modelOf h0 h1 h2 h3 h4 h5 h6 h7 h8) (markOf x y u v)) ⌝ }
+    ensures { λ r. ⌜ r ≡ valueOf (distanceAnswer ratio (modelOf h0 h1 h2 h3 h4 h5 h6 h7 h8) (markOf x y u v)) ⌝ }
 {
     let h = Model {
         h0,
@@ -157,7 +159,7 @@ pub extern "C" fn probe_distance(
         h7,
         h8,
     };
-    value(sheet::distance(h, Mark { x, y, u, v }))
+    value(sheet::distance(h, Mark { x, y, u, v }, ratio))
 }
 
 #[no_mangle]
@@ -175,8 +177,9 @@ pub extern "C" fn probe_residual_told(
     y: f64,
     u: f64,
     v: f64,
+    ratio: f64,
 ) -> u32
-    ensures { λ r. ⌜ r ≡ measureTold (gives (measureOf (modelOf h0 h1 h2 h3 h4 h5 h6 h7 h8) (markOf x y u v))) ⌝ }
+    ensures { λ r. ⌜ r ≡ measureTold (gives (measureOf ratio (modelOf h0 h1 h2 h3 h4 h5 h6 h7 h8) (markOf x y u v))) ⌝ }
 {
     let h = Model {
         h0,
@@ -189,7 +192,7 @@ pub extern "C" fn probe_residual_told(
         h7,
         h8,
     };
-    told(sheet::residual(h, Mark { x, y, u, v }))
+    told(sheet::residual(h, Mark { x, y, u, v }, ratio))
 }
 
 #[no_mangle]
@@ -207,8 +210,9 @@ pub extern "C" fn probe_residual(
     y: f64,
     u: f64,
     v: f64,
+    ratio: f64,
 ) -> f64
-    ensures { λ r. ⌜ r ≡ valueOf (gives (measureOf (modelOf h0 h1 h2 h3 h4 h5 h6 h7 h8) (markOf x y u v))) ⌝ }
+    ensures { λ r. ⌜ r ≡ valueOf (gives (measureOf ratio (modelOf h0 h1 h2 h3 h4 h5 h6 h7 h8) (markOf x y u v))) ⌝ }
 {
     let h = Model {
         h0,
@@ -221,7 +225,7 @@ pub extern "C" fn probe_residual(
         h7,
         h8,
     };
-    value(sheet::residual(h, Mark { x, y, u, v }))
+    value(sheet::residual(h, Mark { x, y, u, v }, ratio))
 }
 
 #[no_mangle]

@@ -1,4 +1,4 @@
--- A state as 24 words and a trial's answer as 28, for a caller in C or Rust. A double is its bit pattern, and all NaNs are one; a flag is 0 or 1.
+-- A state as 25 words and a trial's answer as 29, for a caller in C or Rust. A double is its bit pattern, and all NaNs are one; a flag is 0 or 1.
 use mathlib.Core.Bool.{Bool, cond, not}
 use mathlib.Core.List.{List, [], _∷_, _++_, map}
 use Prim.Native.Nat.{ℕ, _%_}
@@ -23,6 +23,13 @@ bit b = cond b 1 0
 unfoldable pub optionWords : RansacOptions → List ℕ
 optionWords o = bits (o .thresh) ∷ bits (o .confidence) ∷ o .«max_iters» ∷ o .«min_inliers» ∷ bit (o .refit) ∷ []
 
+-- word 24; word 5 where the options stand by themselves
+unfoldable pub ratioWord : RansacOptions → List ℕ
+ratioWord o = bits (o .ratio) ∷ []
+
+unfoldable pub madeWords : RansacOptions → List ℕ
+madeWords o = optionWords o ++ ratioWord o
+
 -- words 5 to 10
 unfoldable pub countWords : Run → List ℕ
 countWords r = r .n ∷ r .book .read ∷ r .book .empties ∷ r .book .fews ∷ r .book .scores ∷ r .book .bound ∷ []
@@ -33,7 +40,7 @@ winnerWords none = 0 ∷ 0 ∷ 0 ∷ 0 ∷ 0 ∷ 0 ∷ 0 ∷ 0 ∷ 0 ∷ 0 ∷ 0
 winnerWords (held w) = 1 ∷ w .count ∷ w .number ∷ bits (w .rms) ∷ map bits (modelNumbers (w .model))
 
 unfoldable pub runWords : Run → List ℕ
-runWords r = optionWords (r .options) ++ countWords r ++ winnerWords (r .book .winner)
+runWords r = optionWords (r .options) ++ countWords r ++ winnerWords (r .book .winner) ++ ratioWord (r .options)
 
 -- which outcome, the refusal's number or the count, and the root mean square
 unfoldable pub outcomeWords : Outcome → List ℕ
@@ -43,7 +50,7 @@ outcomeWords (is-few count) = 2 ∷ count ∷ 0 ∷ []
 outcomeWords (is-held count rms) = 3 ∷ count ∷ bits rms ∷ []
 outcomeWords (is-won count rms) = 4 ∷ count ∷ bits rms ∷ []
 
--- words 24 to 26, and 27 for the number beyond
+-- words 25 to 27, and 28 for the number beyond
 unfoldable pub triedWords : Answer → List ℕ
 triedWords t = (runWords (t .run) ++ outcomeWords (t .outcome)) ++ (t .beyond ∷ [])
 
@@ -84,6 +91,7 @@ optionsIn l =
       «max_iters» = smallAt l 2;
       «min_inliers» = smallAt l 3;
       refit = flagAt l 4;
+      ratio = numberAt l 24;
     }
 
 unfoldable pub runIn : List ℕ → Run

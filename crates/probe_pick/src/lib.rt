@@ -1,5 +1,5 @@
 // The picker's entries for the comparison with the Rust: each one exported with plain numbers, over the
-// C calling convention. A state is handed in and out as 24 words.
+// C calling convention. A state is handed in and out as 25 words.
 mod reading;
 mod scoring;
 mod writing;
@@ -12,7 +12,7 @@ ghost use Rattle.rule.specs.Lists.{filled};
 ghost use Rattle.records.specs.Marks.{numbersIn};
 ghost use Rattle.records.specs.Options.{usualOptions};
 ghost use Rattle.pick.specs.Opening.{openingAnswer, recordAnswer, viewOpened};
-ghost use Rattle.probe_pick.specs.Words.{optionWords};
+ghost use Rattle.probe_pick.specs.Words.{madeWords};
 ghost use Rattle.probe_pick.specs.Calls.{optionsOf, madeNumber, openedNumber, openedAfter, triedNumber, triedAfter, listedNumber, listedAfter};
 
 // The answer of a call that has too few words to read, or too few places for those that it writes.
@@ -23,7 +23,7 @@ fn put_opened(opened: Opened, state: &mut [u64]) -> u32
     ensures { λ r. ⌜ r ≡ openedNumber (viewOpened opened) (now (state .entry)) ⌝ }
     ensures { λ _. ⌜ now (state .exit) ≡ openedAfter (viewOpened opened) (now (state .entry)) ⌝ }
 {
-    if state.len() < 24 {
+    if state.len() < 25 {
         return NO_WORDS;
     }
     match opened {
@@ -50,12 +50,13 @@ pub extern "C" fn probe_open_options(
     max_iters: u32,
     min_inliers: u32,
     refit: bool,
+    ratio: f64,
     marks: &[f64],
     stops: &[u32],
     state: &mut [u64],
 ) -> u32
-    ensures { λ r. ⌜ r ≡ openedNumber (openingAnswer (optionsOf thresh confidence «max_iters» «min_inliers» refit) (now (marks .entry)) (now (stops .entry))) (now (state .entry)) ⌝ }
-    ensures { λ _. ⌜ now (state .exit) ≡ openedAfter (openingAnswer (optionsOf thresh confidence «max_iters» «min_inliers» refit) (now (marks .entry)) (now (stops .entry))) (now (state .entry)) ⌝ }
+    ensures { λ r. ⌜ r ≡ openedNumber (openingAnswer (optionsOf thresh confidence «max_iters» «min_inliers» refit ratio) (now (marks .entry)) (now (stops .entry))) (now (state .entry)) ⌝ }
+    ensures { λ _. ⌜ now (state .exit) ≡ openedAfter (openingAnswer (optionsOf thresh confidence «max_iters» «min_inliers» refit ratio) (now (marks .entry)) (now (stops .entry))) (now (state .entry)) ⌝ }
 {
     let options = RansacOptions {
         thresh,
@@ -63,20 +64,21 @@ pub extern "C" fn probe_open_options(
         max_iters,
         min_inliers,
         refit,
+        ratio,
     };
     put_opened(pick::open(options, marks, stops), state)
 }
 
-// The options with their defaults, as a state's first five words.
+// The options with their defaults: a state's first five words, and the ratio's.
 #[no_mangle]
 pub extern "C" fn probe_new_options(thresh: f64, state: &mut [u64]) -> u32
     ensures { λ r. ⌜ r ≡ madeNumber (now (state .entry)) ⌝ }
-    ensures { λ _. ⌜ now (state .exit) ≡ filled (optionWords (usualOptions thresh)) (now (state .entry)) ⌝ }
+    ensures { λ _. ⌜ now (state .exit) ≡ filled (madeWords (usualOptions thresh)) (now (state .entry)) ⌝ }
 {
-    if state.len() < 5 {
+    if state.len() < 6 {
         return NO_WORDS;
     }
-    let words = writing::option_words(RansacOptions::new(thresh));
+    let words = writing::made_words(RansacOptions::new(thresh));
     writing::put(&words, state);
     0
 }
@@ -94,10 +96,10 @@ pub extern "C" fn probe_trial(
     ensures { λ r. ⌜ r ≡ triedNumber (now (state .entry)) (now (out .entry)) ⌝ }
     ensures { λ _. ⌜ now (out .exit) ≡ triedAfter (now (state .entry)) (record { bytes = now (bytes .entry); marks = now (marks .entry); stops = now (stops .entry) }) (now (out .entry)) ⌝ }
 {
-    if state.len() < 24 {
+    if state.len() < 25 {
         return NO_WORDS;
     }
-    if out.len() < 28 {
+    if out.len() < 29 {
         return NO_WORDS;
     }
     writing::put_tried(
@@ -113,7 +115,7 @@ pub extern "C" fn probe_winner_indices(state: &[u64], marks: &[f64], indices: &m
     ensures { λ r. ⌜ r ≡ listedNumber (now (state .entry)) (now (marks .entry)) (now (indices .entry)) ⌝ }
     ensures { λ _. ⌜ now (indices .exit) ≡ listedAfter (now (state .entry)) (now (marks .entry)) (now (indices .entry)) ⌝ }
 {
-    if state.len() < 24 {
+    if state.len() < 25 {
         return 0x2_0000_0000;
     }
     let answer = pick::winner_indices(reading::state_in(state), marks, indices);

@@ -1,4 +1,4 @@
-// A state read from its 24 words. A word that is not there is 0.
+// A state read from its 25 words. A word that is not there is 0.
 use pick::Best;
 use pick::State;
 use pick::Winner;
@@ -72,6 +72,7 @@ fn options_in(words: &[u64]) -> RansacOptions
         max_iters: small_at(words, 2),
         min_inliers: small_at(words, 3),
         refit: flag_at(words, 4),
+        ratio: number_at(words, 24),
     }
 }
 

@@ -23,12 +23,13 @@ pub extern "C" fn probe_squared_residuals(
     h6: f64,
     h7: f64,
     h8: f64,
+    ratio: f64,
     marks: &[f64],
     squares: &mut [f64],
     counting: bool,
 ) -> usize
     ensures { λ r. ⌜ r ≡ beyondFound counting (now (marks .entry)) (modelOf h0 h1 h2 h3 h4 h5 h6 h7 h8) (now (squares .entry)) ⌝ }
-    ensures { λ _. ⌜ now (squares .exit) ≡ filled (squaresOf (now (marks .entry)) (modelOf h0 h1 h2 h3 h4 h5 h6 h7 h8)) (now (squares .entry)) ⌝ }
+    ensures { λ _. ⌜ now (squares .exit) ≡ filled (squaresOf ratio (now (marks .entry)) (modelOf h0 h1 h2 h3 h4 h5 h6 h7 h8)) (now (squares .entry)) ⌝ }
 {
     let h = Model {
         h0,
@@ -41,7 +42,7 @@ pub extern "C" fn probe_squared_residuals(
         h7,
         h8,
     };
-    measure::squared_residuals(h, marks, squares, counting)
+    measure::squared_residuals(h, ratio, marks, squares, counting)
 }
 
 #[no_mangle]

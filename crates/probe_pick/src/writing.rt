@@ -1,4 +1,4 @@
-// A state's 24 words, and a trial's 28, put into a lent list.
+// A state's 25 words, and a trial's 29, put into a lent list.
 use pick::Best;
 use pick::Outcome;
 use pick::State;
@@ -11,7 +11,7 @@ ghost use lib.ListN.{length};
 ghost use Rattle.book.specs.Book.{held};
 ghost use Rattle.rule.specs.Lists.{filled};
 ghost use Rattle.pick.specs.Run.{viewWinner, viewBest, viewState, viewOutcome, viewTried};
-ghost use Rattle.probe_pick.specs.Words.{bit, optionWords, countWords, winnerWords, runWords, outcomeWords, triedWords};
+ghost use Rattle.probe_pick.specs.Words.{bit, optionWords, ratioWord, madeWords, countWords, winnerWords, runWords, outcomeWords, triedWords};
 
 // Puts words into the front of `part`, if it has room for them.
 pub(crate) fn put(words: &[u64], part: &mut [u64])
@@ -34,7 +34,7 @@ fn bit(b: bool) -> u64
     if b { 1 } else { 0 }
 }
 
-pub(crate) fn option_words(o: RansacOptions) -> [u64; 5]
+fn option_words(o: RansacOptions) -> [u64; 5]
     ensures { λ r. ⌜ r ≡ optionWords o ⌝ }
 {
     [
@@ -44,6 +44,21 @@ pub(crate) fn option_words(o: RansacOptions) -> [u64; 5]
         o.min_inliers as u64,
         bit(o.refit),
     ]
+}
+
+fn ratio_word(o: RansacOptions) -> [u64; 1]
+    ensures { λ r. ⌜ r ≡ ratioWord o ⌝ }
+{
+    [fields::bits_of(o.ratio)]
+}
+
+// The words of options by themselves: those at a state's front, and the ratio's.
+pub(crate) fn made_words(o: RansacOptions) -> [u64; 6]
+    ensures { λ r. ⌜ r ≡ madeWords o ⌝ }
+{
+    let front = option_words(o);
+    let last = ratio_word(o);
+    [front[0], front[1], front[2], front[3], front[4], last[0]]
 }
 
 fn count_words(s: State) -> [u64; 6]
@@ -91,7 +106,7 @@ fn winner_words(best: Best) -> [u64; 13]
 
 // The state's words, into a list that has room for them.
 pub(crate) fn put_state(s: State, out: &mut [u64])
-    requires { ⌜ 24 ≤ length (now out) ⌝ }
+    requires { ⌜ 25 ≤ length (now out) ⌝ }
     ensures { λ _. ⌜ now (out .exit) ≡ filled (runWords (viewState s)) (now (out .entry)) ⌝ }
 {
     let options = s.options;
@@ -99,9 +114,11 @@ pub(crate) fn put_state(s: State, out: &mut [u64])
     let front = option_words(options);
     let counts = count_words(s);
     let winner = winner_words(best);
+    let ratio = ratio_word(options);
     put(&front, &mut out[0..5]);
     put(&counts, &mut out[5..11]);
     put(&winner, &mut out[11..24]);
+    put(&ratio, &mut out[24..25]);
 }
 
 fn outcome_words(outcome: Outcome) -> [u64; 3]
@@ -118,14 +135,14 @@ fn outcome_words(outcome: Outcome) -> [u64; 3]
 
 // The new state's words, the outcome's and the number beyond, into a list that has room for them.
 pub(crate) fn put_tried(t: Tried, out: &mut [u64])
-    requires { ⌜ 28 ≤ length (now out) ⌝ }
+    requires { ⌜ 29 ≤ length (now out) ⌝ }
     ensures { λ _. ⌜ now (out .exit) ≡ filled (triedWords (viewTried t)) (now (out .entry)) ⌝ }
 {
     let state = t.state;
     let outcome = t.outcome;
     let words = outcome_words(outcome);
     let last = [t.beyond as u64];
-    put_state(state, &mut out[0..24]);
-    put(&words, &mut out[24..27]);
-    put(&last, &mut out[27..28]);
+    put_state(state, &mut out[0..25]);
+    put(&words, &mut out[25..28]);
+    put(&last, &mut out[28..29]);
 }

@@ -118,7 +118,7 @@ fn rows_agree(record: &[u8]) -> bool {
     refusal as u64 == fields::long_at(record, 4) && lent_agrees(record, &lent, k)
 }
 
-// A distance's input: the model, and then the mark.
+// A distance's input: the model, then the mark, then the ratio.
 fn model(record: &[u8]) -> Model {
     Model {
         h0: fields::double_at(record, 5),
@@ -145,7 +145,8 @@ fn mark(record: &[u8]) -> Mark {
 // Word 116 is the distance; where the mark is beyond it is 0, and word 117 is 1.
 fn distance_agrees(record: &[u8]) -> bool {
     let refusal = fields::long_at(record, 4);
-    let answer = sheet::distance(model(record), mark(record));
+    let ratio = fields::double_at(record, 18);
+    let answer = sheet::distance(model(record), mark(record), ratio);
     match answer {
         Measured::Distance(d) => {
             refusal == 0

@@ -11,8 +11,8 @@ returns c = not-made _ _ (c .if1 .taken)
 new-requires : tie.Need-new-requires
 new-requires c κs = search needs
 
-option-words-requires : tie.Need-option-words-requires
-option-words-requires c κs = search needs
+made-words-requires : tie.Need-made-words-requires
+made-words-requires c κs = search needs
 
 slice-aggregate-put : tie.Need-slice-aggregate-put
 slice-aggregate-put c = search needs
@@ -24,7 +24,7 @@ same-length : tie.Need-same-length
 same-length c = search needs
 
 returns-2 : tie.Need-returns-2
-returns-2 c = made _ _ (c .before .before .before .before .before .before .before .if1 .left) (c .before .before .put .ensures ∙ rw (c .before .before .before .before .before .option-words .ensures, c .before .before .before .before .before .before .new .ensures))
+returns-2 c = made _ _ (c .before .before .before .before .before .before .before .if1 .left) (c .before .before .put .ensures ∙ rw (c .before .before .before .before .before .made-words .ensures, c .before .before .before .before .before .before .new .ensures))
 
 pub probe-new-options-spec : {M : Type 1} → statement M
 probe-new-options-spec =
@@ -32,7 +32,7 @@ probe-new-options-spec =
     (tie.spec
     returns
     new-requires
-    option-words-requires
+    made-words-requires
     slice-aggregate-put
     put-requires
     same-length

@@ -19,9 +19,12 @@ small-at-requires-2 c κs = search needs
 flag-at-requires : tie.Need-flag-at-requires
 flag-at-requires c κs = search needs
 
+number-at-requires-3 : tie.Need-number-at-requires-3
+number-at-requires-3 c κs = search needs
+
 returns : tie.Need-returns
 unfolding optionsIn
-returns c = rw (c .before .before .before .before .number-at .ensures, c .before .before .before .number-at2 .ensures, c .before .before .small-at .ensures, c .before .small-at2 .ensures, c .flag-at .ensures)
+returns c = rw (c .before .before .before .before .before .number-at .ensures, c .before .before .before .before .number-at2 .ensures, c .before .before .before .small-at .ensures, c .before .before .small-at2 .ensures, c .before .flag-at .ensures, c .number-at3 .ensures)
 
 pub options-in-spec : {M : Type 1} → statement M
 options-in-spec =
@@ -32,4 +35,5 @@ options-in-spec =
     small-at-requires
     small-at-requires-2
     flag-at-requires
+    number-at-requires-3
     returns)

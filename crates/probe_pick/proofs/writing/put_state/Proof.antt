@@ -13,6 +13,9 @@ count-words-requires c κs = search needs
 winner-words-requires : tie.Need-winner-words-requires
 winner-words-requires c κs = search needs
 
+ratio-word-requires : tie.Need-ratio-word-requires
+ratio-word-requires c κs = search needs
+
 slice-aggregate-put : tie.Need-slice-aggregate-put
 slice-aggregate-put c = search needs
 
@@ -58,6 +61,21 @@ part-put-end-3 c = search needs
 put-requires-3 : tie.Need-put-requires-3
 put-requires-3 c κs = search needs
 
+slice-aggregate-put-4 : tie.Need-slice-aggregate-put-4
+slice-aggregate-put-4 c = search needs
+
+sub-put-4 : tie.Need-sub-put-4
+sub-put-4 c = search needs
+
+part-put-start-4 : tie.Need-part-put-start-4
+part-put-start-4 c = search needs
+
+part-put-end-4 : tie.Need-part-put-end-4
+part-put-end-4 c = search needs
+
+put-requires-4 : tie.Need-put-requires-4
+put-requires-4 c κs = search needs
+
 same-length : tie.Need-same-length
 same-length c = search needs
 
@@ -71,6 +89,7 @@ put-state-spec =
     option-words-requires
     count-words-requires
     winner-words-requires
+    ratio-word-requires
     slice-aggregate-put
     sub-put
     part-put-start
@@ -86,5 +105,10 @@ put-state-spec =
     part-put-start-3
     part-put-end-3
     put-requires-3
+    slice-aggregate-put-4
+    sub-put-4
+    part-put-start-4
+    part-put-end-4
+    put-requires-4
     same-length
     returns)
