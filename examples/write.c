@@ -21,13 +21,14 @@ static uint8_t stops_file[(MARKS + 1) * SALGHEMU_STOP_BYTES];
 static uint8_t trials_file[TRIALS * SALGHEMU_TRIAL_BYTES];
 
 static const char *const names[] = {"", "RECORD", "THRESH", "CONFIDENCE", "ITERS", "SHAPE",
-    "POINT", "FEW", "STOPS", "ROOM"};
+    "POINT", "FEW", "STOPS", "ROOM", [SALGHEMU_RATIO] = "RATIO"};
 
 static void check(uint32_t refusal)
 {
     if (refusal == 0)
         return;
-    printf("refused: %s\n", refusal <= SALGHEMU_ROOM ? names[refusal] : "unknown");
+    const char *name = refusal <= SALGHEMU_RATIO ? names[refusal] : NULL;
+    printf("refused: %s\n", name ? name : "unknown");
     exit(1);
 }
 
@@ -47,7 +48,7 @@ static void save(const char *folder, const char *name, const uint8_t *bytes, siz
 int main(int count, char **words)
 {
     const char *folder = count > 1 ? words[1] : ".";
-    check(salghemu_write_options(2.0, 0.99, 10, 4, 0, options_file, sizeof options_file));
+    check(salghemu_write_options(2.0, 0.99, 10, 4, 0, 1.0, options_file, sizeof options_file));
     for (int k = 0; k < MARKS; k++)
         check(salghemu_write_mark(marks[k][0], marks[k][1], marks[k][2], marks[k][3],
             marks_file + k * SALGHEMU_MARK_BYTES, SALGHEMU_MARK_BYTES));

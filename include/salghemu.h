@@ -16,8 +16,10 @@
 extern "C" {
 #endif
 
-/* Bytes of each record, and the most marks that a run takes. */
-#define SALGHEMU_OPTIONS_BYTES 32
+/* Bytes of each record, and the most marks that a run takes. Options may also
+   have the short length: without the ratio, which is then 1. */
+#define SALGHEMU_OPTIONS_BYTES 40
+#define SALGHEMU_OPTIONS_BYTES_SHORT 32
 #define SALGHEMU_MARK_BYTES 32
 #define SALGHEMU_STOP_BYTES 4
 #define SALGHEMU_TRIAL_BYTES 152
@@ -52,7 +54,8 @@ enum salghemu_refusal {
     SALGHEMU_ENDED = 10,
     /* No trial was scored, so there is no winner. */
     SALGHEMU_NONE = 11,
-    /* The rest are refusals of functions that this header does not have. */
+    /* From 12 to 15 they are refusals of functions that this header does not
+       have. */
     /* Points without spread. */
     SALGHEMU_SPREAD = 12,
     /* The marks lie on a line of the sheet. */
@@ -60,16 +63,20 @@ enum salghemu_refusal {
     /* Their pixels lie on a line. */
     SALGHEMU_PIXEL_LINE = 14,
     /* A number that has no root, or a coefficient out of range. */
-    SALGHEMU_NUMBER = 15
+    SALGHEMU_NUMBER = 15,
+    /* The row ratio is not finite, or not from 0.01 to 100. */
+    SALGHEMU_RATIO = 16
 };
 
 /*
  * The whole run: reads the trials in order until the stop list ends the run or
  * none are left, and writes the winner.
  *
- * options  32 bytes: threshold and confidence (double), most iterations and
+ * options  40 bytes: threshold and confidence (double), most iterations and
  *          least marks of a scored trial (uint32_t), a byte 0 or 1 that asks
- *          for refits, seven zero bytes.
+ *          for refits, seven zero bytes, the row ratio (double), by which a
+ *          difference along v is multiplied before the distance is taken. Or
+ *          the first 32 of them: the ratio is then 1.
  * marks    32 bytes each: sheet x, y and pixel u, v (double); n marks, 4 to
  *          2,000.
  * stops    n + 1 entries (uint32_t): entry k is how many trials are enough
@@ -83,9 +90,10 @@ enum salghemu_refusal {
  *          that agrees, ascending, and the winner's count says how many.
  *
  * It returns 0, or a refusal; of several that hold, the first in this order:
- * 1 for the options, 2 to 8, 1 for the length of the trial list, 9, 1 for a
- * trial that is reached, 11. Refused, it writes nothing. Bytes past those said
- * above stay as they were, and trials behind the end are not looked at.
+ * 1 for the options, 2 to 4, 16, 5 to 8, 1 for the length of the trial list, 9,
+ * 1 for a trial that is reached, 11. Refused, it writes nothing. Bytes past
+ * those said above stay as they were, and trials behind the end are not looked
+ * at.
  *
  * The caller guarantees, since nothing here can test it: each pointer is valid
  * for its length, which is in bytes, the inputs for reading and the outputs
@@ -101,23 +109,24 @@ uint32_t salghemu_run(const uint8_t *options, size_t options_len,
                       uint8_t *indices, size_t indices_len);
 
 /*
- * Writes the options, 32 bytes as the run reads them, to the front of out.
+ * Writes the options, 40 bytes as the run reads them, to the front of out.
  *
  * thresh, confidence      the threshold and the confidence.
  * max_iters, min_inliers  most iterations, least marks of a scored trial.
  * refit_mark              1 asks for refits, 0 does not.
- * out                     32 bytes are needed.
+ * ratio                   the row ratio; 1 where the pixels are square.
+ * out                     40 bytes are needed.
  *
  * It returns 0, or a refusal; of several that hold, the first in this order:
- * 1 for the refit mark, 2 to 4, 9. Refused, it writes nothing. Bytes past the
- * record stay as they were.
+ * 1 for the refit mark, 2 to 4, 16, 9. Refused, it writes nothing. Bytes past
+ * the record stay as they were.
  *
  * The caller guarantees: out is valid for writing out_len bytes, and nobody
  * else uses them during the call. No alignment is needed. NULL may go with 0.
  */
 uint32_t salghemu_write_options(double thresh, double confidence,
                                 uint32_t max_iters, uint32_t min_inliers,
-                                uint8_t refit_mark,
+                                uint8_t refit_mark, double ratio,
                                 uint8_t *out, size_t out_len);
 
 /*

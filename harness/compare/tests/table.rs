@@ -72,8 +72,9 @@ fn fresh(name: &str) -> PathBuf {
     folder
 }
 
-/// The sheet of examples/ gives what stands beside it, and without one of its
-/// files the refusal's name.
+/// The sheet of examples/ gives what stands beside it, also with options that
+/// have no ratio; without one of its files, or with a ratio of 0, it gives the
+/// refusal's name.
 #[test]
 fn the_sample_prints() {
     let (sheet, files) = example::files();
@@ -93,6 +94,16 @@ fn the_sample_prints() {
         fs::remove_file(folder.join(missing)).expect("a file");
         assert_eq!(printed(&TABLE, &folder), format!("refused: {name}\n"));
     }
+
+    for (file, bytes) in &files {
+        fs::write(folder.join(file), bytes).expect("a file");
+    }
+    let short = example::sheet().short_bytes().expect("ratio 1").options;
+    fs::write(folder.join("options.bin"), &short).expect("a file");
+    assert_eq!(printed(&TABLE, &folder), expected());
+    let zero = [short.as_slice(), &[0; 8]].concat();
+    fs::write(folder.join("options.bin"), zero).expect("a file");
+    assert_eq!(printed(&TABLE, &folder), "refused: RATIO\n");
     fs::remove_dir_all(&folder).expect("the folder goes");
 }
 

@@ -42,6 +42,7 @@ pub fn sheet() -> Case {
             max_iters: 10,
             min_inliers: 4,
             refit: false,
+            ratio: 1.0,
         },
         marks: SQUARE.to_vec(),
         stops: vec![9, 9, 9, 9, 3, 9],
