@@ -14,6 +14,9 @@ use oracle::{Model, Trial, stop_list};
 pub const MARKS: usize = 2000;
 pub const TRIALS: usize = 1000;
 pub const THRESH: f64 = 2.0;
+/// Under this the distances are 01's. Neither side knows that it is 1 where it
+/// is timed, so both multiply by it.
+pub const RATIO: f64 = 1.0;
 
 /// What a sheet's marks go through to become pixels.
 const TRUE: Model = [1.02, 0.03, 15.0, -0.02, 0.98, -7.0, 1e-5, -2e-5, 1.0];
@@ -81,6 +84,7 @@ fn case(marks: Vec<f64>, trials: Vec<Trial>, refit: bool) -> Case {
         max_iters: TRIALS as u32,
         min_inliers: good(n).min(12) as u32,
         refit,
+        ratio: RATIO,
     };
     Case {
         options,
@@ -126,7 +130,8 @@ pub fn best_first() -> Case {
     let marks = case.mark_list().to_vec();
     let by_rms = |trial: &Trial| {
         let h = trial.fit.expect("good");
-        let squares: Vec<f64> = marks.iter().map(|mark| squared(&h, mark)).collect();
+        let all = marks.iter().map(|mark| squared(&h, mark, RATIO));
+        let squares: Vec<f64> = all.collect();
         rms(THRESH, &squares, good(MARKS) as u32).to_bits()
     };
     case.trials.sort_by_cached_key(by_rms);

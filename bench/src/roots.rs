@@ -36,8 +36,8 @@ pub fn follow(case: &Case) -> Roots {
         best: None,
     };
     let squares = |h: &Model| -> Vec<f64> {
-        let marks = case.mark_list().iter();
-        marks.map(|mark| squared(h, mark)).collect()
+        let (marks, ratio) = (case.mark_list().iter(), case.options.ratio);
+        marks.map(|mark| squared(h, mark, ratio)).collect()
     };
     let mut winner = Vec::new();
     for trial in &case.trials {

@@ -1,5 +1,5 @@
 //! The whole run, beside the original `ransac_fit` over the same recorded
-//! trials, which both read to the end.
+//! trials, which both read to the end. Both measure by the same row ratio.
 //!
 //! The proved side decodes its bytes within the time, and the Rust's copies
 //! the list of trials into a queue.
@@ -22,7 +22,7 @@ fn proved(bytes: &Bytes, winner: &mut [u8], indices: &mut [u8]) -> u32 {
 fn agree(case: &Case, roots: &Roots) {
     let (mut winner, mut indices) = ([0; WINNER_BYTES], vec![0; 4 * case.n()]);
     assert_eq!(proved(&case.bytes(), &mut winner, &mut indices), 0);
-    let theirs = ransac_fit(case.mark_list(), &case.ransac_options(), &case.trials);
+    let theirs = case.ransac_fit();
     assert_eq!(theirs.read, TRIALS);
     let best = theirs.winner.expect("a winner");
     let count = best.inliers.len() as u32;
@@ -41,6 +41,7 @@ fn agree(case: &Case, roots: &Roots) {
 fn times(case: &Case) -> [f64; 2] {
     let (mut winner, mut indices) = ([0; WINNER_BYTES], vec![0; 4 * case.n()]);
     let (bytes, options) = (case.bytes(), case.ransac_options());
+    let ratio = case.options.ratio;
     let passes = (MARKS / case.n()).min(20);
     let mut times = [const { Vec::new() }; 2];
     for _ in 0..ROUNDS {
@@ -48,8 +49,8 @@ fn times(case: &Case) -> [f64; 2] {
             black_box(proved(black_box(&bytes), &mut winner, &mut indices));
         }));
         times[1].push(nanoseconds(passes, || {
-            let (marks, trials) = black_box((case.mark_list(), &case.trials));
-            black_box(ransac_fit(marks, &options, trials));
+            let (marks, ratio, trials) = black_box((case.mark_list(), ratio, &case.trials));
+            black_box(ransac_fit(marks, &options, ratio, trials));
         }));
     }
     times.map(median)

@@ -4,7 +4,7 @@
 //! Each is timed over the candidates of a run in turn, good ones and poor
 //! ones, and is the mean of them.
 
-use crate::cases::{MARKS, THRESH, best_first, good, same_counts};
+use crate::cases::{MARKS, RATIO, THRESH, best_first, good, same_counts};
 use crate::{ROUNDS, median, nanoseconds};
 use oracle::book::trial_record;
 use oracle::pick_cases::Case;
@@ -19,6 +19,7 @@ fn original_walk(
     model: &Model,
     data: &[Mark],
     thresh: f64,
+    ratio: f64,
     inliers: &mut Vec<usize>,
     inlier_residuals: &mut Vec<f64>,
 ) {
@@ -28,7 +29,7 @@ fn original_walk(
     inlier_residuals.reserve(data.len());
 
     for (i, datum) in data.iter().enumerate() {
-        let r = distance(model, datum);
+        let r = distance(model, datum, ratio);
         if r <= thresh {
             inliers.push(i);
             inlier_residuals.push(r);
@@ -42,7 +43,7 @@ fn candidates(case: &Case, every: usize) -> Vec<(Model, Vec<f64>)> {
     let mut list = Vec::new();
     for h in fits.skip(1).step_by(every).take(50) {
         let mut squares = vec![0.0; MARKS];
-        squared_residuals(&h, &case.marks, &mut squares, false);
+        squared_residuals(&h, RATIO, &case.marks, &mut squares, false);
         list.push((h, squares));
     }
     list
@@ -67,15 +68,15 @@ fn row(title: &str, times: [f64; 2]) {
 /// Microseconds of a trial call on a state that holds the first candidate.
 fn trial(case: &Case, outcome: u64, list: &[Model]) -> f64 {
     let (marks, stops) = (&case.marks, &case.stops);
-    let mut state = [0; 24];
+    let mut state = [0; 25];
     assert_eq!(
         pick::open(&case.options.record(), marks, stops, &mut state),
         0
     );
-    let mut out = [0; 28];
+    let mut out = [0; 29];
     let first = trial_record(&case.trials[0]);
     assert_eq!(pick::trial(&state, &first, marks, stops, &mut out), 0);
-    state.copy_from_slice(&out[..24]);
+    state.copy_from_slice(&out[..25]);
     let record = |&h: &Model| {
         trial_record(&Trial {
             fit: Some(h),
@@ -85,7 +86,7 @@ fn trial(case: &Case, outcome: u64, list: &[Model]) -> f64 {
     let records: Vec<_> = list.iter().map(record).collect();
     for record in &records {
         assert_eq!(pick::trial(&state, record, marks, stops, &mut out), 0);
-        assert_eq!(out[24], outcome);
+        assert_eq!(out[25], outcome);
     }
     let rounds = (0..ROUNDS).map(|_| {
         nanoseconds(5, || {
@@ -110,7 +111,8 @@ pub fn run() {
         lists.each_ref().map(|list| {
             timed(list, |h, _| {
                 let squares = black_box(&mut squares);
-                black_box(squared_residuals(h, &case.marks, squares, beyond));
+                let ratio = black_box(RATIO);
+                black_box(squared_residuals(h, ratio, &case.marks, squares, beyond));
             })
         })
     });
@@ -128,7 +130,7 @@ pub fn run() {
         lists.each_ref().map(|list| {
             timed(list, |h, _| {
                 let (marks, residuals) = (case.mark_list(), &mut residuals);
-                original_walk(h, marks, THRESH, &mut inliers, residuals);
+                original_walk(h, marks, THRESH, black_box(RATIO), &mut inliers, residuals);
                 black_box((&inliers, residuals));
             })
         }),

@@ -96,7 +96,8 @@ impl Close {
                 continue;
             };
             let stands = self.standing(case, trial);
-            let met = |mark| distance(&stands, mark) == case.options.thresh;
+            let Options { thresh, ratio, .. } = case.options;
+            let met = |mark| distance(&stands, mark, ratio) == thresh;
             self.at_thresh += usize::from(case.mark_list().iter().any(met));
             if let Some(best) = before.filter(|best| best.count == count) {
                 self.tie(case, &stands, rms, &best);
@@ -106,6 +107,7 @@ impl Close {
 }
 
 fn squares(case: &Case, h: &Model) -> Vec<f64> {
-    let all = case.mark_list().iter().map(|mark| squared(h, mark));
-    all.collect()
+    let ratio = case.options.ratio;
+    let all = case.mark_list().iter();
+    all.map(|mark| squared(h, mark, ratio)).collect()
 }

@@ -2,7 +2,7 @@
 //! the words of their calls and answers.
 
 use crate::all_came;
-use oracle::book::{Call, Words, trial_of_record};
+use oracle::book::{Call, RATIO_AT, Words, trial_of_record};
 use oracle::{Mark, Model, beyond, distance};
 
 /// How often an answer that isn't refused told of marks beyond.
@@ -52,7 +52,9 @@ impl Folded {
         let fit = trial.fit.expect("it isn't empty");
         self.kinds_of_s(&fit, marks);
         if told == 0 {
-            let any = |is: fn(f64) -> bool| marks.iter().any(|mark| is(distance(&fit, mark)));
+            let ratio = f64::from_bits(state[RATIO_AT]);
+            let any =
+                |is: fn(f64) -> bool| marks.iter().any(|mark| is(distance(&fit, mark, ratio)));
             self.far += usize::from(any(f64::is_infinite));
             self.nan += usize::from(any(f64::is_nan));
         } else {
@@ -78,8 +80,8 @@ impl Folded {
 
     /// A refit that is asked for, where the fit is scored.
     fn refit(&mut self, state: &Words, refit: &Model, marks: &[Mark], told: usize) {
-        let thresh = f64::from_bits(state[0]);
-        let within = count_of(marks, |mark| distance(refit, mark) <= thresh);
+        let [thresh, ratio] = [0, RATIO_AT].map(|place| f64::from_bits(state[place]));
+        let within = count_of(marks, |mark| distance(refit, mark, ratio) <= thresh);
         if within >= state[3] as u32 as usize {
             let under = count_of(marks, |mark| beyond(refit, mark));
             self.refit_more += usize::from(under > told);

@@ -2,6 +2,7 @@
 
 pub mod close;
 pub mod folded;
+pub mod ratios;
 
 /// How many random cases: SALGHEMU_CASES, or the test's own number, times
 /// SALGHEMU_TIMES.
@@ -42,7 +43,7 @@ pub fn is_long(count: usize) -> bool {
 
 /// How often each answer came: the refusals by their numbers, 0 for accepted.
 #[derive(Default)]
-pub struct Tally([usize; 16]);
+pub struct Tally([usize; 17]);
 
 impl Tally {
     pub fn add(&mut self, number: u32) {

@@ -22,7 +22,7 @@ fn the_numbers_file_is_todays() {
 
 #[test]
 fn the_sheet_file_is_todays() {
-    is_todays(sheets::FILE, sheets::records(), 260);
+    is_todays(sheets::FILE, sheets::records(), 302);
 }
 
 /// Each kind shows all its refusals that an input of at most 20 numbers can.
@@ -36,13 +36,37 @@ fn the_sheet_file_shows_every_refusal() {
         (1, vec![0, 5, 6, 9, 12]),
         (2, vec![0, 5, 6]),
         (3, vec![0, 5, 6, 7, 9, 13, 14]),
-        (4, vec![0, 1, 6]),
+        (4, vec![0, 1, 6, 16]),
     ];
     for (kind, numbers) in expected {
         for number in numbers {
             assert!(shown.contains(&(kind, number)), "{kind} shows no {number}");
         }
     }
+}
+
+/// Each ratio that matters, with what it answers where nothing else is wrong;
+/// and 1 and 6 beside a ratio that is refused.
+#[test]
+fn the_sheet_file_shows_every_ratio() {
+    let list = sheets::records();
+    let shows = |answer: u64, ratio: f64| {
+        let word = records::bits(ratio);
+        list.iter().any(|record| {
+            assert!(record[0] != 4 || record[2] == 14);
+            (record[0], record[4], record[18]) == (4, answer, word)
+        })
+    };
+    let accepted = [0.01, 0.5, 1.0, 2.0, 100.0];
+    let refused = [0.01f64.next_down(), 100f64.next_up(), 0.0, -1.0];
+    for ratio in accepted {
+        assert!(shows(0, ratio), "{ratio:e}");
+    }
+    for ratio in [&refused[..], &[f64::NAN, f64::INFINITY]].concat() {
+        assert!(shows(16, ratio), "{ratio:e}");
+    }
+    assert!(shows(1, 0.0) && shows(6, 0.0));
+    assert!(!shows(0, 0.0) && !shows(16, 1.0));
 }
 
 /// Distances of every kind with s > 0, s = +inf too, and marks that are beyond

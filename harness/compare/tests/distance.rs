@@ -1,10 +1,12 @@
 //! The proved distance, residual and projection against plain formulas: a
-//! number, that the mark is beyond, or the refusal.
+//! number, that the mark is beyond, or the refusal; by row ratios of every kind.
 
+use compare::ratios::Ratios;
 use compare::{all_came, cases, is_long, same};
 use oracle::cases::Random;
 use oracle::entries;
-use oracle::sheet_cases::{distance, distance_traps};
+use oracle::ratio_cases;
+use oracle::sheet_cases::{distance, distance_traps, ratio_traps};
 use oracle::{Mark, Measure, Model, measure};
 use proved::BEYOND;
 
@@ -12,6 +14,15 @@ use proved::BEYOND;
 struct Tally {
     record: usize,
     point: usize,
+    ratio: usize,
+    /// 6 and 16 hold, and 6 is told; 1 and 16, and 1 is told.
+    point_before_ratio: usize,
+    record_before_ratio: usize,
+    /// Beyond by a ratio, and refused for it though it would be beyond.
+    beyond_by_ratio: usize,
+    ratio_before_beyond: usize,
+    /// By this ratio another number than by 1.
+    decided: usize,
     /// Numbers: finite, infinite, a NaN, and any with s = +inf.
     finite: usize,
     infinite: usize,
@@ -23,6 +34,7 @@ struct Tally {
     negative_s: usize,
     minus_inf_s: usize,
     nan_s: usize,
+    ratios: Ratios,
 }
 
 /// s, and where the model has the point, by 01's formulas.
@@ -31,6 +43,16 @@ fn projection(h: &Model, x: f64, y: f64) -> [f64; 3] {
     let across = ((h[0] * x + h[1] * y) + h[2]) / s;
     let down = ((h[3] * x + h[4] * y) + h[5]) / s;
     [s, across, down]
+}
+
+/// 01's own distance, which knows no ratio; a NaN where the mark is beyond.
+fn of_01(h: &Model, &[x, y, u, v]: &Mark) -> f64 {
+    let [s, across, down] = projection(h, x, y);
+    let (du, dv) = (across - u, down - v);
+    match s > 0.0 {
+        true => (du * du + dv * dv).sqrt(),
+        false => f64::NAN,
+    }
 }
 
 /// What the proved code tells of an answer, and its number; a NaN stands for
@@ -43,15 +65,19 @@ fn told(answer: Result<Measure, u32>) -> (u32, f64) {
     }
 }
 
-/// Compares the residual and the projection, which refuse nothing.
-fn compare_formulas(h: &Model, mark: &Mark) {
-    let (word, number) = told(Ok(measure(h, mark)));
-    assert_eq!(proved::residual_told(h, mark), word, "{h:?} {mark:?}");
-    let ours = proved::residual(h, mark);
+/// Compares the residual, by this ratio and by 1, and the projection, which
+/// refuse nothing.
+fn compare_formulas(h: &Model, mark: &Mark, ratio: f64) {
+    let (word, number) = told(Ok(measure(h, mark, ratio)));
+    let ours = proved::residual_told(h, mark, ratio);
+    assert_eq!(ours, word, "{h:?} {mark:?} {ratio:e}");
+    let ours = proved::residual(h, mark, ratio);
     assert!(
         same(ours, number),
-        "{h:?} {mark:?}: {ours:e}, not {number:e}"
+        "{h:?} {mark:?} {ratio:e}: {ours:e}, not {number:e}"
     );
+    let ours = proved::residual(h, mark, 1.0);
+    assert!(same(ours, of_01(h, mark)), "{h:?} {mark:?} by 1: {ours:e}");
     let [x, y, ..] = *mark;
     for (place, number) in (0..).zip(projection(h, x, y)) {
         let ours = proved::projection(h, &[x, y], place);
@@ -62,25 +88,41 @@ fn compare_formulas(h: &Model, mark: &Mark) {
     }
 }
 
-fn compare(h: &Model, mark: &Mark, tally: &mut Tally) {
-    let (word, number) = told(entries::distance(h, mark));
-    assert_eq!(proved::distance_told(h, mark), word, "{h:?} {mark:?}");
-    let ours = proved::distance(h, mark);
+fn compare(h: &Model, mark: &Mark, ratio: f64, tally: &mut Tally) {
+    let (word, number) = told(entries::distance(h, mark, ratio));
+    let ours = proved::distance_told(h, mark, ratio);
+    assert_eq!(ours, word, "{h:?} {mark:?} {ratio:e}");
+    let ours = proved::distance(h, mark, ratio);
     assert!(
         same(ours, number),
-        "{h:?} {mark:?}: {ours:e}, not {number:e}"
+        "{h:?} {mark:?} {ratio:e}: {ours:e}, not {number:e}"
     );
-    compare_formulas(h, mark);
+    compare_formulas(h, mark, ratio);
     let [s, ..] = projection(h, mark[0], mark[1]);
     match word {
         0 => tally.number(number, s),
         1 => tally.record += 1,
+        6 => tally.point += 1,
+        16 => tally.ratio += 1,
         BEYOND => tally.beyond(s),
-        _ => tally.point += 1,
+        _ => panic!("no answer of a distance: {word}"),
     }
+    tally.by_ratio(h, mark, ratio, (word, number));
 }
 
 impl Tally {
+    /// Counts what came by a ratio, beside what comes by 1.
+    fn by_ratio(&mut self, h: &Model, mark: &Mark, ratio: f64, (word, number): (u32, f64)) {
+        let (word_by_one, by_one) = told(entries::distance(h, mark, 1.0));
+        let refused = !(0.01..=100.0).contains(&ratio);
+        self.ratios.add(ratio);
+        self.record_before_ratio += usize::from(word == 1 && refused);
+        self.point_before_ratio += usize::from(word == 6 && refused);
+        self.beyond_by_ratio += usize::from(word == BEYOND && ratio != 1.0);
+        self.ratio_before_beyond += usize::from(word == 16 && word_by_one == BEYOND);
+        self.decided += usize::from(word == 0 && !same(number, by_one));
+    }
+
     fn number(&mut self, distance: f64, s: f64) {
         assert!(s > 0.0);
         self.finite += usize::from(distance.is_finite());
@@ -104,6 +146,12 @@ impl Tally {
             all_came(&[
                 self.record,
                 self.point,
+                self.ratio,
+                self.point_before_ratio,
+                self.record_before_ratio,
+                self.beyond_by_ratio,
+                self.ratio_before_beyond,
+                self.decided,
                 self.finite,
                 self.infinite,
                 self.nan,
@@ -123,7 +171,13 @@ impl Tally {
 fn traps() {
     let mut tally = Tally::default();
     for (h, mark) in distance_traps() {
-        compare(&h, &mark, &mut tally);
+        compare(&h, &mark, 1.0, &mut tally);
+        for ratio in ratio_cases::limits() {
+            compare(&h, &mark, ratio, &mut tally);
+        }
+    }
+    for (h, mark, ratio) in ratio_traps() {
+        compare(&h, &mark, ratio, &mut tally);
     }
     println!("distance, traps: {tally:?}");
     tally.met();
@@ -136,11 +190,15 @@ fn random_models() {
     let count = cases(500_000);
     for i in 0..count {
         let (h, mark) = distance(random, i);
-        compare(&h, &mark, &mut tally);
+        let any = ratio_cases::any(random);
+        let accepted = ratio_cases::accepted(random);
+        let ratio = random.pick(&[accepted, accepted, accepted, any]);
+        compare(&h, &mark, ratio, &mut tally);
     }
     println!("distance: {tally:?}");
     if is_long(count) {
         tally.met();
+        tally.ratios.all_met();
     }
 }
 
@@ -170,7 +228,9 @@ fn patterns() {
     for _ in 0..cases(300_000) {
         let h = [0; 9].map(|_| pattern(random));
         let mark = [0; 4].map(|_| pattern(random));
-        compare(&h, &mark, &mut tally);
+        let any = pattern(random);
+        let ratio = random.pick(&[1.0, any]);
+        compare(&h, &mark, ratio, &mut tally);
     }
     println!("distance, any patterns: {tally:?}");
 }

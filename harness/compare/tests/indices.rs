@@ -1,11 +1,12 @@
 //! The proved indices of a winner, from runs and from states made by hand.
 
 use compare::Tally;
-use oracle::book::{Call, State, Words, trial_record};
+use compare::ratios::Ratios;
+use oracle::Model;
+use oracle::book::{Call, RATIO_AT, State, Words, trial_record};
 use oracle::cases::{NANS, Random};
 use oracle::pick_cases::{Case, any_stops, damage_marks, hand_made, reference, runs};
 use oracle::sheet_cases::room;
-use oracle::{Model, ransac_fit};
 use proved::pick;
 
 /// A number of runs from which on every answer must come up.
@@ -53,11 +54,13 @@ fn run(case: &Case) -> Words {
 fn indices_are_ransac_fits() {
     let random = &mut Random::new(50);
     let mut tally = Tally::default();
+    let mut ratios = Ratios::default();
     let count = runs(8_000, 100);
     for i in 0..count {
         let case = reference(random, i);
         let words = run(&case);
-        let theirs = ransac_fit(case.mark_list(), &case.ransac_options(), &case.trials);
+        let theirs = case.ransac_fit();
+        ratios.add(case.options.ratio);
         let number = compare(&words, &case.marks, case.n());
         tally.add(number);
         let Some(winner) = theirs.winner else {
@@ -76,6 +79,7 @@ fn indices_are_ransac_fits() {
     tally.show("indices, as ransac_fit");
     if count >= LONG {
         tally.met(&[0, 11]);
+        ratios.accepted_met();
     }
 }
 
@@ -113,6 +117,7 @@ fn pool(random: &mut Random, case: &Case) -> Vec<Model> {
 fn hand_made_states() {
     let random = &mut Random::new(52);
     let mut tally = Tally::default();
+    let mut ratios = Ratios::default();
     let count = runs(20_000, 50);
     for i in 0..count {
         let mut case = any_stops(random, i);
@@ -122,11 +127,17 @@ fn hand_made_states() {
         if random.below(4) == 0 {
             case.marks.truncate(4 * words[5].min(2000) as usize);
         }
-        tally.add(compare(&words, &case.marks, room(random, case.n())));
+        let number = compare(&words, &case.marks, room(random, case.n()));
+        tally.add(number);
+        if number == 0 {
+            ratios.add(f64::from_bits(words[RATIO_AT]));
+        }
     }
     tally.show("indices, hand-made states");
+    println!("indices, hand-made states: {ratios:?}");
     if count >= LONG {
         tally.met(&[0, 5, 7, 9, 11]);
+        ratios.all_met();
     }
 }
 
@@ -145,6 +156,35 @@ fn hand_made_thresholds() {
         assert_eq!(pick::winner_indices(&words, &case.marks, &mut list), 0);
     }
     assert_eq!(compare(&words, &case.marks, 5), 0);
+}
+
+/// The winner's ratio is the state's, whatever it is: under I the last mark is
+/// three off along v, and the others are off by nothing.
+#[test]
+fn hand_made_ratios() {
+    let case = oracle::example::sheet();
+    let mut words = run(&case);
+    let (all, four, last): (&[u32], &[u32], &[u32]) = (&[0, 1, 2, 3, 4], &[0, 1, 2, 3], &[4]);
+    let inf = f64::INFINITY;
+    for (thresh, ratio, places) in [
+        (2.0, 1.0, four),
+        (2.0, 0.5, all),
+        (2.0, 0.0, all),
+        (2.0, -0.0, all),
+        (2.0, -0.5, all),
+        (2.0, -1.0, four),
+        (inf, inf, last),
+        (inf, -inf, last),
+        (2.0, inf, &[]),
+        (inf, f64::NAN, &[]),
+    ] {
+        (words[0], words[RATIO_AT]) = (thresh.to_bits(), ratio.to_bits());
+        let mut list = junk(5);
+        let told = pick::winner_indices(&words, &case.marks, &mut list);
+        assert_eq!(told, places.len() as u64, "{thresh:e} {ratio:e}");
+        assert_eq!(list[..places.len()], *places);
+        assert_eq!(compare(&words, &case.marks, 5), 0);
+    }
 }
 
 /// 11, 5, 6, 7, 9; and a state that has not all its words.
@@ -166,7 +206,7 @@ fn order() {
     assert_eq!(compare(&words, marks, 5), 5);
     words[11] = 0;
     assert_eq!(compare(&words, &[nan; 7], 0), 11);
-    for len in [0, 1, 23] {
+    for len in [0, 1, 24] {
         let mut list = junk(5);
         let told = pick::winner_indices(&words[..len], marks, &mut list);
         assert_eq!((told, list), (1 << 33, junk(5)));

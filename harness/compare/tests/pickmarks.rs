@@ -6,6 +6,7 @@
 use oracle::cases::Random;
 use oracle::example;
 use oracle::pick_cases::{Bytes, any_stops, damaged, reference, runs};
+use oracle::ratio_cases;
 use oracle::whole::printed;
 use std::collections::BTreeMap;
 use std::fs;
@@ -117,23 +118,31 @@ fn the_worked_run() {
     assert_eq!(String::from_utf8_lossy(&output.stdout), example::PRINTED);
 }
 
-/// Runs that nothing is wrong with, in the reference's domain and beyond.
+/// Runs that nothing is wrong with, in the reference's domain and beyond. Where
+/// the ratio is 1, options without it print the same.
 #[test]
 fn good_folders() {
     let random = &mut Random::new(60);
     let folder = Folder::new("good");
     let mut lines = Lines::default();
+    let mut short = 0;
     let count = runs(300, 20_000);
     for i in 0..count {
         let case = match i % 2 {
             0 => reference(random, i / 2),
             _ => any_stops(random, i / 2),
         };
-        lines.add(&compare(&folder, &all(case.bytes())));
+        let text = compare(&folder, &all(case.bytes()));
+        lines.add(&text);
+        if let Some(bytes) = case.short_bytes() {
+            assert_eq!(compare(&folder, &all(bytes)), text);
+            short += 1;
+        }
     }
-    println!("pickmarks, good: {:?}", lines.0);
+    println!("pickmarks, good: {:?}, short options {short}", lines.0);
     if count >= LONG {
         lines.met(&["winner", "no winner"]);
+        assert!(0 < short && short < count);
     }
 }
 
@@ -154,7 +163,7 @@ fn damaged_folders() {
     println!("pickmarks, damaged: {:?}", lines.0);
     if count >= LONG {
         lines.met(&["winner", "no winner"]);
-        for number in 1..=8 {
+        for number in [1, 2, 3, 4, 16, 5, 6, 7, 8] {
             lines.met(&[&format!("refused {number}")]);
         }
     }
@@ -184,7 +193,7 @@ fn lengths() {
     let folder = Folder::new("lengths");
     let good = all(example::sheet().bytes());
     let lengths: [&[usize]; 4] = [
-        &[1, 24, 31, 33, 64, 5000],
+        &[0, 1, 24, 31, 32, 33, 39, 40, 41, 42, 64, 5000],
         &[
             31, 32, 96, 127, 128, 129, 159, 161, 192, 63_999, 64_000, 64_001, 64_032, 200_000,
         ],
@@ -197,8 +206,49 @@ fn lengths() {
         for &len in *lengths {
             let mut files = good.clone();
             files[place].as_mut().expect("a file").resize(len, 0);
-            compare(&folder, &files);
+            let text = compare(&folder, &files);
+            if place == 0 {
+                let is_record = [32, 40].contains(&len);
+                let expected = if is_record {
+                    example::PRINTED
+                } else {
+                    "refused 1\n"
+                };
+                assert_eq!(text, expected, "{len} bytes");
+            }
         }
+    }
+}
+
+/// The worked run by each ratio at which something turns, and with another
+/// fault before it and behind.
+#[test]
+fn ratios() {
+    let folder = Folder::new("ratios");
+    for ratio in ratio_cases::limits() {
+        let mut case = example::sheet();
+        case.options.ratio = ratio;
+        let text = compare(&folder, &all(case.bytes()));
+        let accepted = 0.01 <= ratio && ratio <= 100.0;
+        assert_eq!(text == "refused 16\n", !accepted, "{ratio:e}");
+        case.marks.push(0.0);
+        let text = compare(&folder, &all(case.bytes()));
+        let number = if accepted { 5 } else { 16 };
+        assert_eq!(text, format!("refused {number}\n"), "{ratio:e}");
+        case.options.max_iters = 0;
+        assert_eq!(compare(&folder, &all(case.bytes())), "refused 4\n");
+    }
+}
+
+/// 01's worked run as the program's own check has it: a record without a ratio.
+#[test]
+fn the_programs_own_files() {
+    let data = Path::new(env!("CARGO_MANIFEST_DIR")).join("../../crates/pickmarks/data");
+    let bytes = example::sheet().short_bytes().expect("ratio 1");
+    assert_eq!(bytes.options.len(), 32);
+    for (name, bytes) in FILES.iter().zip(all(bytes)) {
+        let there = fs::read(data.join(name)).expect("a file");
+        assert!(Some(there) == bytes, "{name} differs");
     }
 }
 

@@ -2,18 +2,20 @@
 //! book for refusals, stop lists of any numbers and every byte that is lent.
 
 use compare::close::Close;
-use compare::{Tally, junk_bytes};
-use oracle::book::{TRIAL_BYTES, WINNER_BYTES};
+use compare::ratios::Ratios;
+use compare::{Tally, all_came, junk_bytes};
+use oracle::book::{Options, TRIAL_BYTES, WINNER_BYTES};
 use oracle::cases::Random;
 use oracle::close_cases::close;
 use oracle::example;
-use oracle::pick_cases::{Bytes, Case, any_stops, damaged, reference, rooms, runs};
+use oracle::pick_cases::{Bytes, Case, NOT_OPTIONS, any_stops, damaged, reference, rooms, runs};
+use oracle::ratio_cases;
 use oracle::whole;
-use oracle::{Run, Trial, Winner, ransac_fit, stop_list};
+use oracle::{Run, Trial, Winner, stop_list};
 use proved::pick::salghemu_run;
 
 /// Every number that the whole run may answer.
-const ANSWERS: [u32; 11] = [0, 1, 2, 3, 4, 5, 6, 7, 8, 9, 11];
+const ANSWERS: [u32; 12] = [0, 1, 2, 3, 4, 16, 5, 6, 7, 8, 9, 11];
 
 /// A number of runs from which on every answer must come up.
 const LONG: usize = 2_000;
@@ -111,7 +113,7 @@ fn is_rusts(bytes: &Bytes, theirs: &Run, rooms: [usize; 2]) {
 /// Compares one run with the original. How many trials were read shows: those
 /// behind may be anything or absent, and the last of them may not be.
 fn compare_with_rust(case: &Case, rooms: [usize; 2], tally: &mut Tally) {
-    let theirs = ransac_fit(case.mark_list(), &case.ransac_options(), &case.trials);
+    let theirs = case.ransac_fit();
     let mut bytes = case.bytes();
     is_rusts(&bytes, &theirs, rooms);
     tally.add(compare(&bytes, rooms));
@@ -125,20 +127,57 @@ fn compare_with_rust(case: &Case, rooms: [usize; 2], tally: &mut Tally) {
     assert_eq!(compare(&bytes, rooms), 1);
 }
 
+/// By which ratios runs went, and what the ratio did.
+#[derive(Debug, Default)]
+struct ByRatio {
+    ratios: Ratios,
+    /// Runs that ratio 1 gives something else for.
+    decided: usize,
+    /// Runs of ratio 1 whose options were given without it too.
+    short: usize,
+}
+
+impl ByRatio {
+    /// Counts a run, which gives the same without a ratio of 1, byte for byte.
+    fn add(&mut self, case: &Case, rooms: [usize; 2]) {
+        self.ratios.add(case.options.ratio);
+        let long = given(&case.bytes(), rooms);
+        if let Some(short) = case.short_bytes() {
+            assert_eq!((short.options.len(), case.bytes().options.len()), (32, 40));
+            assert!(given(&short, rooms) == long, "short: {}", about(&short));
+            self.short += 1;
+        } else {
+            let mut by_one = case.clone();
+            by_one.options.ratio = 1.0;
+            self.decided += usize::from(given(&by_one.bytes(), rooms) != long);
+        }
+    }
+
+    fn met(&self) {
+        self.ratios.accepted_met();
+        assert!(all_came(&[self.decided, self.short]), "{self:?}");
+    }
+}
+
 #[test]
 fn the_whole_run_gives_what_ransac_fit_gives() {
     let random = &mut Random::new(30);
     let mut tally = Tally::default();
+    let mut by_ratio = ByRatio::default();
     let count = runs(8_000, 100);
     for i in 0..count {
         let case = reference(random, i);
         let exact = [WINNER_BYTES, 4 * case.n()];
         let more = exact.map(|need| need + random.below(9) as usize);
-        compare_with_rust(&case, random.pick(&[exact, more]), &mut tally);
+        let rooms = random.pick(&[exact, more]);
+        compare_with_rust(&case, rooms, &mut tally);
+        by_ratio.add(&case, rooms);
     }
     tally.show("whole run, as ransac_fit");
+    println!("whole run, as ransac_fit: {by_ratio:?}");
     if count >= LONG {
         tally.met(&[0, 11]);
+        by_ratio.met();
     }
 }
 
@@ -151,18 +190,21 @@ fn the_rms_decides() {
     let random = &mut Random::new(35);
     let mut tally = Tally::default();
     let mut met = Close::default();
+    let mut by_ratio = ByRatio::default();
     let count = runs(8_000, 100);
     for i in 0..count {
         let case = close(random, i);
         let rooms = [WINNER_BYTES, 4 * case.n()];
         compare_with_rust(&case, rooms, &mut tally);
+        by_ratio.add(&case, rooms);
         met.run(&case);
     }
     tally.show("whole run, close candidates");
-    println!("close candidates: {met:?}");
+    println!("close candidates: {met:?} {by_ratio:?}");
     if count >= LONG {
         tally.met(&[0]);
         met.met();
+        by_ratio.met();
     }
 }
 
@@ -170,15 +212,20 @@ fn the_rms_decides() {
 fn any_stop_list() {
     let random = &mut Random::new(31);
     let mut tally = Tally::default();
+    let mut by_ratio = ByRatio::default();
     let count = runs(8_000, 100);
     for i in 0..count {
-        let bytes = any_stops(random, i).bytes();
+        let case = any_stops(random, i);
+        let bytes = case.bytes();
         let rooms = rooms(random, &bytes.marks);
         tally.add(compare(&bytes, rooms));
+        by_ratio.add(&case, rooms);
     }
     tally.show("whole run, any stops");
+    println!("whole run, any stops: {by_ratio:?}");
     if count >= LONG {
         tally.met(&[0, 9, 11]);
+        by_ratio.met();
     }
 }
 
@@ -214,7 +261,7 @@ fn any_bytes() {
             (0..len).map(|_| random.word() as u8).collect()
         };
         let bytes = Bytes {
-            options: some(&good.options, &[32, 32, 0, 31, 40]),
+            options: some(&good.options, &[32, 40, 40, 0, 31, 39]),
             marks: some(&good.marks, &[128, 160, 0, 31, 64_000, 64_032]),
             stops: some(&good.stops, &[20, 24, 24, 0, 8004]),
             trials: some(&good.trials, &[0, 152, 304, 151]),
@@ -246,6 +293,86 @@ fn rooms_for_the_outputs() {
     assert_eq!(compare(&cut, [0, 0]), 1);
 }
 
+/// Lengths of the options: 32 and 40 are records, and the same where the ratio
+/// is 1. No other length is, whatever else is wrong.
+#[test]
+fn lengths_of_the_options() {
+    let good = example::sheet().bytes();
+    assert_eq!(good.options.len(), 40);
+    let with = |len: usize| {
+        let mut bytes = good.clone();
+        bytes.options.resize(len, 0);
+        bytes
+    };
+    assert_eq!(compare(&good, [88, 20]), 0);
+    assert!(given(&with(32), [88, 20]) == given(&good, [88, 20]));
+    for len in NOT_OPTIONS.into_iter().chain([25, 48, 72, 5000]) {
+        assert_eq!(compare(&with(len), [88, 20]), 1, "{len} bytes");
+        let mut bytes = with(len);
+        bytes.marks.clear();
+        assert_eq!(compare(&bytes, [0, 0]), 1, "{len} bytes");
+    }
+}
+
+/// The run with ever more faults behind the ratio's place, each before the last
+/// in the order, and what they answer where the ratio is accepted.
+fn faults_behind(case: &Case) -> Vec<(Bytes, u32)> {
+    let mut bytes = case.bytes();
+    let mut list = vec![(bytes.clone(), 0)];
+    bytes.trials.truncate(151);
+    list.push((bytes.clone(), 1));
+    bytes.stops.clear();
+    list.push((bytes.clone(), 8));
+    bytes.marks.truncate(96);
+    list.push((bytes.clone(), 7));
+    bytes.marks[..8].fill(0xff);
+    list.push((bytes.clone(), 6));
+    bytes.marks.truncate(95);
+    list.push((bytes, 5));
+    list
+}
+
+/// The run with a fault before the ratio's place, and what it answers.
+fn faults_before(case: &Case) -> [(Bytes, u32); 4] {
+    let with = |change: fn(&mut Options)| {
+        let mut case = case.clone();
+        change(&mut case.options);
+        case.bytes()
+    };
+    let mut filler = case.bytes();
+    filler.options[31] = 1;
+    [
+        (with(|options| options.max_iters = 0), 4),
+        (with(|options| options.confidence = 1.0), 3),
+        (with(|options| options.thresh = 0.0), 2),
+        (filler, 1),
+    ]
+}
+
+/// The worked run by each ratio at which something turns, alone and with other
+/// faults: 16 comes after 1 to 4 and before all others.
+#[test]
+fn ratios_of_the_worked_run() {
+    let mut ratios = Ratios::default();
+    for ratio in ratio_cases::limits() {
+        let mut case = example::sheet();
+        case.options.ratio = ratio;
+        ratios.add(ratio);
+        let accepted = 0.01 <= ratio && ratio <= 100.0;
+        for (bytes, other) in faults_behind(&case) {
+            let number = if accepted { other } else { 16 };
+            assert_eq!(compare(&bytes, [88, 20]), number, "{ratio:e} {other}");
+            // 9 comes behind all of them but for 0.
+            let number = if number == 0 { 9 } else { number };
+            assert_eq!(compare(&bytes, [88, 19]), number, "{ratio:e} {other}");
+        }
+        for (bytes, number) in faults_before(&case) {
+            assert_eq!(compare(&bytes, [0, 0]), number, "{ratio:e}");
+        }
+    }
+    ratios.all_met();
+}
+
 /// Nothing at all: every list empty.
 #[test]
 fn nothing() {
@@ -270,7 +397,7 @@ fn every_bit_of_the_worked_run() {
     each(|bytes| &mut bytes.stops);
     each(|bytes| &mut bytes.trials);
     tally.show("whole run, every bit");
-    tally.met(&[0, 1, 2, 3, 4, 6, 11]);
+    tally.met(&[0, 1, 2, 3, 4, 16, 6, 11]);
 }
 
 /// The most iterations over few marks, and many over the most marks; none of

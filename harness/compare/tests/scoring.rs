@@ -1,8 +1,10 @@
-//! The proved measuring and scoring: lists of squared distances of any numbers
-//! against the plain computation, bit for bit.
+//! The proved measuring and scoring: lists of squared distances of any numbers,
+//! measured by any row ratio, against the plain computation, bit for bit.
 
+use compare::ratios::Ratios;
 use compare::{all_came, cases, is_long, junk, same, same_lists};
 use oracle::cases::{NANS, Random, step};
+use oracle::ratio_cases;
 use oracle::scoring::{self, Limits, squared};
 use oracle::scoring_cases::{best, count, sheet, squares, thresh};
 use oracle::sheet_cases::room;
@@ -250,10 +252,13 @@ struct Kinds {
     no_room: usize,
     /// With marks beyond, of which none is told.
     no_room_beyond: usize,
+    /// Squares that are others by ratio 1.
+    decided: usize,
+    ratios: Ratios,
 }
 
 impl Kinds {
-    fn mark(&mut self, h: &Model, mark: &Mark) {
+    fn mark(&mut self, h: &Model, mark: &Mark, ratio: f64) {
         let s = (h[6] * mark[0] + h[7] * mark[1]) + h[8];
         self.marks += 1;
         self.positive += usize::from(s > 0.0);
@@ -261,7 +266,11 @@ impl Kinds {
         self.negative += usize::from(s < 0.0);
         self.infinite += usize::from(s.is_infinite());
         self.nan += usize::from(s.is_nan());
-        self.nan_square += usize::from(squared(h, mark).is_nan());
+        let square = squared(h, mark, ratio);
+        self.nan_square += usize::from(square.is_nan());
+        self.decided += usize::from(!same(square, squared(h, mark, 1.0)));
+        // Whatever the ratio is, no square is below 0, and none is -0.
+        assert!(square.is_nan() || square.is_sign_positive());
     }
 
     /// A list of so many marks, and how many of them are beyond.
@@ -285,35 +294,40 @@ impl Kinds {
                 self.all_beyond,
                 self.no_room,
                 self.no_room_beyond,
+                self.decided,
                 self.marks
             ]),
             "{self:?}"
         );
+        self.ratios.all_met();
     }
 }
 
 /// Measures, with the whole lent list and how many are beyond, counted or not;
 /// each square's root is the distance.
-fn measure(h: &Model, marks: &[f64], room: usize, kinds: &mut Kinds) {
+fn measure(h: &Model, ratio: f64, marks: &[f64], room: usize, kinds: &mut Kinds) {
     let list: &[Mark] = marks.as_chunks().0;
     let (mut theirs, mut told) = (junk(room), 0);
     let all_beyond = list.iter().filter(|mark| beyond(h, mark)).count();
     kinds.list(list.len(), all_beyond, room);
+    kinds.ratios.add(ratio);
     for mark in list {
-        kinds.mark(h, mark);
-        assert!(same(squared(h, mark).sqrt(), distance(h, mark)));
+        kinds.mark(h, mark, ratio);
+        let root = squared(h, mark, ratio).sqrt();
+        assert!(same(root, distance(h, mark, ratio)));
     }
     if list.len() <= room {
         told = all_beyond;
         for (place, mark) in theirs.iter_mut().zip(list) {
-            *place = squared(h, mark);
+            *place = squared(h, mark, ratio);
         }
     }
     for (counting, told) in [(true, told), (false, 0)] {
         let mut ours = junk(room);
-        let number = proved::squared_residuals(h, marks, &mut ours, counting);
-        assert_eq!(number, told, "{counting}, room {room}, {h:?} {marks:?}");
-        assert!(same_lists(&ours, &theirs), "room {room}, {h:?} {marks:?}");
+        let number = proved::squared_residuals(h, ratio, marks, &mut ours, counting);
+        let about = || format!("{counting}, room {room}, {ratio:e} {h:?} {marks:?}");
+        assert_eq!(number, told, "{}", about());
+        assert!(same_lists(&ours, &theirs), "{}", about());
     }
 }
 
@@ -324,7 +338,12 @@ fn measured_sheets() {
     let count = cases(200_000);
     for i in 0..count {
         let (h, marks) = sheet(random, i);
-        measure(&h, &marks, room(random, marks.len() / 4), &mut kinds);
+        let ratio = match random.below(2) {
+            0 => ratio_cases::accepted(random),
+            _ => ratio_cases::any(random),
+        };
+        let room = room(random, marks.len() / 4);
+        measure(&h, ratio, &marks, room, &mut kinds);
     }
     println!("measuring: {kinds:?}");
     if is_long(count) {

@@ -4,10 +4,13 @@
 
 use compare::{Tally, cases, is_long, junk, junk_bytes};
 use oracle::Mark;
-use oracle::book::{OPTIONS_BYTES, Options, State, TRIAL_BYTES, Words};
+use oracle::book::{
+    OPTIONS_BYTES, Options, RATIO_AT, SHORT_OPTIONS_BYTES, State, TRIAL_BYTES, Words,
+};
 use oracle::cases::Random;
 use oracle::example::{I, SQUARE, T};
 use oracle::pick_cases::{any_stops, runs};
+use oracle::ratio_cases;
 use oracle::sheet_cases::room;
 use oracle::writing::{self, MARK_BYTES, OptionsNumbers, TrialNumbers, packed_mark};
 use oracle::writing_cases::{
@@ -40,6 +43,11 @@ trait Numbers: Debug + Sized {
 
     /// What stands in the fields of so many bytes.
     fn fields(record: &[u8]) -> Self;
+
+    /// What the writer makes of the numbers of an accepted record: the record.
+    fn made(record: &[u8]) -> Vec<u8> {
+        record.to_vec()
+    }
 }
 
 fn doubles(bytes: &[u8]) -> Vec<f64> {
@@ -70,13 +78,14 @@ impl Numbers for OptionsNumbers {
             self.max_iters,
             self.min_inliers,
             self.refit_mark,
+            self.ratio,
             out,
         )
     }
 
     /// An opening that refuses nothing else, from the words of its state.
     fn read(record: &[u8]) -> Result<Self, u32> {
-        let mut words: Words = [0; 24];
+        let mut words: Words = [0; 25];
         match pick::open(record, &SQUARE, &STOPS, &mut words) {
             0 => Ok(Self {
                 thresh: f64::from_bits(words[0]),
@@ -84,6 +93,7 @@ impl Numbers for OptionsNumbers {
                 max_iters: words[2].try_into().expect("a count"),
                 min_inliers: words[3].try_into().expect("a count"),
                 refit_mark: words[4].try_into().expect("a mark"),
+                ratio: f64::from_bits(words[RATIO_AT]),
             }),
             number => Err(number),
         }
@@ -97,7 +107,17 @@ impl Numbers for OptionsNumbers {
             max_iters: whole(&record[16..20]),
             min_inliers: whole(&record[20..24]),
             refit_mark: record[24],
+            ratio: doubles(&record[32..])[0],
         }
+    }
+
+    /// One without a ratio is written with 1.
+    fn made(record: &[u8]) -> Vec<u8> {
+        let mut bytes = record.to_vec();
+        if record.len() == SHORT_OPTIONS_BYTES {
+            bytes.extend(1f64.to_le_bytes());
+        }
+        bytes
     }
 }
 
@@ -125,7 +145,7 @@ impl Numbers for Mark {
         numbers.truncate(4);
         let marks = [numbers.as_slice(), &SQUARE].concat();
         let record = Options::new(2.0).record();
-        match pick::open(&record, &marks, &[1; 7], &mut [0; 24]) {
+        match pick::open(&record, &marks, &[1; 7], &mut [0; 25]) {
             0 => Ok(numbers.try_into().expect("four numbers")),
             number => Err(number),
         }
@@ -145,11 +165,11 @@ fn tried(record: &[u8], refit: bool) -> (u64, u64, Vec<f64>) {
         ..Options::new(2.0)
     };
     let state = State::open(options, &SQUARE, &STOPS).expect("an accepted opening");
-    let mut out = [0; 28];
+    let mut out = [0; 29];
     let answer = pick::trial(&state.words(), record, &SQUARE, &STOPS, &mut out);
     assert_eq!(answer, 0);
     let model = out[15..24].iter().map(|&word| f64::from_bits(word));
-    (out[24], out[25], model.collect())
+    (out[25], out[26], model.collect())
 }
 
 impl Numbers for TrialNumbers {
@@ -266,7 +286,7 @@ fn random_numbers<N: Numbers>(seed: u64, one: fn(&mut Random) -> N, answers: &[u
 
 #[test]
 fn random_options() {
-    random_numbers(70, options, &[0, 1, 2, 3, 4, 9]);
+    random_numbers(70, options, &[0, 1, 2, 3, 4, 16, 9]);
 }
 
 #[test]
@@ -299,6 +319,7 @@ fn limits_of_options() {
                     max_iters,
                     min_inliers: u32::MAX - max_iters,
                     refit_mark,
+                    ratio: 2.0,
                 });
                 for one in numbers {
                     in_each_room(&one, &mut tally);
@@ -308,6 +329,35 @@ fn limits_of_options() {
     }
     tally.show("writing options, limits");
     tally.met(&[0, 1, 2, 3, 4, 9]);
+}
+
+/// Every ratio at which something turns, beside every set of the other faults:
+/// 16 comes after 1 to 4, and before 9, which is that of 39 bytes.
+#[test]
+fn ratios_of_options() {
+    let mut tally = Tally::default();
+    for ratio in ratio_cases::limits() {
+        for set in 0..16u32 {
+            let bad = |place: u32| set >> place & 1 == 1;
+            let numbers = OptionsNumbers {
+                thresh: if bad(0) { f64::NAN } else { 2.0 },
+                confidence: if bad(1) { 1.0 } else { 0.5 },
+                max_iters: if bad(2) { 100_001 } else { 100_000 },
+                min_inliers: 4,
+                refit_mark: if bad(3) { 2 } else { 1 },
+                ratio,
+            };
+            in_each_room(&numbers, &mut tally);
+            if set == 0 {
+                let accepted = 0.01 <= ratio && ratio <= 100.0;
+                let expected = if accepted { [9, 9, 0, 0] } else { [16; 4] };
+                let answers = [0, 39, 40, 41].map(|room| compare(&numbers, room));
+                assert_eq!(answers, expected, "{ratio:e}");
+            }
+        }
+    }
+    tally.show("writing options, ratios");
+    tally.met(&[0, 1, 2, 3, 4, 16, 9]);
 }
 
 /// Every two limits at every two places.
@@ -416,6 +466,7 @@ fn files_of_runs() {
             max_iters: case.options.max_iters,
             min_inliers: case.options.min_inliers,
             refit_mark: case.options.refit.into(),
+            ratio: case.options.ratio,
         };
         assert_eq!(written(&options), bytes.options);
         let marks = case.mark_list().iter().flat_map(written);
@@ -436,14 +487,13 @@ fn files_of_runs() {
 // Records.
 
 /// Where the reader accepts a record, the writer gives it back from what was
-/// read; where it refuses one that numbers pack to, the writer refuses these
+/// read, or what it makes of one without a ratio; where it refuses one that numbers pack to, the writer refuses these
 /// numbers with the same. Tells the refusal or 0; nothing where it is no such
 /// record.
 fn there_and_back<N: Numbers>(record: &[u8]) -> Option<u32> {
     match N::read(record) {
         Ok(numbers) => {
-            let record = Ok(record.to_vec());
-            let theirs = expected(&record, N::BYTES);
+            let theirs = expected(&Ok(N::made(record)), N::BYTES);
             assert_eq!(given(&numbers, N::BYTES), theirs, "{numbers:?}");
             Some(0)
         }
@@ -483,7 +533,36 @@ fn random_records<N: Numbers>(seed: u64, one: fn(&mut Random) -> Vec<u8>, answer
 
 #[test]
 fn records_of_options() {
-    random_records::<OptionsNumbers>(74, options_record, &[0, 1, 2, 3, 4]);
+    random_records::<OptionsNumbers>(74, options_record, &[0, 1, 2, 3, 4, 16]);
+}
+
+/// Options without a ratio: what the reader accepts is written as the same 32
+/// bytes and a ratio of 1, and reads back alike; what it refuses, if it is a
+/// packing of numbers, is refused by the writer with ratio 1.
+#[test]
+fn records_of_options_without_a_ratio() {
+    let random = &mut Random::new(78);
+    let mut tally = Tally::default();
+    let count = cases(100_000);
+    for _ in 0..count {
+        let mut short = options_record(random);
+        short.resize(SHORT_OPTIONS_BYTES, 0);
+        let long = OptionsNumbers::made(&short);
+        assert_eq!((long.len(), &long[..32]), (40, &short[..]));
+        let read = |record| OptionsNumbers::read(record).map(|numbers| numbers.packed());
+        assert_eq!(read(&short), read(&long));
+        if let Some(number) = there_and_back::<OptionsNumbers>(&long) {
+            assert_eq!(read(&short).err().unwrap_or(0), number);
+            tally.add(number);
+        }
+        if read(&short).is_ok() {
+            assert_eq!(there_and_back::<OptionsNumbers>(&short), Some(0));
+        }
+    }
+    tally.show("records of options without a ratio");
+    if is_long(count) {
+        tally.met(&[0, 1, 2, 3, 4]);
+    }
 }
 
 #[test]

@@ -1,11 +1,12 @@
 //! 01's picker, read from its text alone, with what 02's order 2 adds to a
-//! trial's answer: the records, the refusals in their orders, judging a trial,
-//! the book, a trial on any state, and the winner's indices. Nothing here is
-//! taken from `ransac_fit`, so that each can be held to the other.
+//! trial's answer and order 3 to the options: the records, the refusals in
+//! their orders, judging a trial, the book, a trial on any state, and the
+//! winner's indices. Nothing here is taken from `ransac_fit`, so that each can
+//! be held to the other.
 //!
 //! Marks are one flat list, four numbers each. A refusal is its number.
 
-use crate::entries::{FEW, POINT, RECORD, ROOM, SHAPE};
+use crate::entries::{FEW, POINT, RECORD, ROOM, SHAPE, ratio_allowed};
 use crate::records::bits;
 use crate::{Mark, Model, Trial, beyond, distance};
 
@@ -25,8 +26,9 @@ pub const NONE: u32 = 11;
 /// The most trials that a run reads.
 pub const MOST_ITERS: u32 = 100_000;
 
-/// Bytes of the options, a trial and a winner.
-pub const OPTIONS_BYTES: usize = 32;
+/// Bytes of the options, of the options without a ratio, a trial and a winner.
+pub const OPTIONS_BYTES: usize = 40;
+pub const SHORT_OPTIONS_BYTES: usize = 32;
 pub const TRIAL_BYTES: usize = 152;
 pub const WINNER_BYTES: usize = 88;
 
@@ -55,6 +57,7 @@ pub struct Options {
     pub max_iters: u32,
     pub min_inliers: u32,
     pub refit: bool,
+    pub ratio: f64,
 }
 
 impl Options {
@@ -66,12 +69,19 @@ impl Options {
             max_iters: 1000,
             min_inliers: 12,
             refit: true,
+            ratio: 1.0,
         }
     }
 
-    /// 1: the length, the refit mark or the filler is wrong.
+    /// 1: the length, the refit mark or the filler is wrong. A record without a
+    /// ratio has 1.
     pub fn of_record(bytes: &[u8]) -> Result<Self, u32> {
-        if bytes.len() != OPTIONS_BYTES || bytes[24] > 1 || !all_zero(&bytes[25..]) {
+        let ratio = match bytes.len() {
+            SHORT_OPTIONS_BYTES => 1.0,
+            OPTIONS_BYTES => double_at(bytes, 32),
+            _ => return Err(RECORD),
+        };
+        if bytes[24] > 1 || !all_zero(&bytes[25..32]) {
             return Err(RECORD);
         }
         Ok(Self {
@@ -80,9 +90,11 @@ impl Options {
             max_iters: whole_at(bytes, 16),
             min_inliers: whole_at(bytes, 20),
             refit: bytes[24] == 1,
+            ratio,
         })
     }
 
+    /// The record with the ratio at its end.
     pub fn record(&self) -> [u8; OPTIONS_BYTES] {
         let mut bytes = [0; OPTIONS_BYTES];
         bytes[..8].copy_from_slice(&self.thresh.to_le_bytes());
@@ -90,10 +102,17 @@ impl Options {
         bytes[16..20].copy_from_slice(&self.max_iters.to_le_bytes());
         bytes[20..24].copy_from_slice(&self.min_inliers.to_le_bytes());
         bytes[24] = self.refit.into();
+        bytes[32..].copy_from_slice(&self.ratio.to_le_bytes());
         bytes
     }
 
-    /// 2, 3, 4.
+    /// The record without a ratio, where that is 1.
+    pub fn short_record(&self) -> Option<[u8; SHORT_OPTIONS_BYTES]> {
+        let front = self.record().first_chunk().copied();
+        front.filter(|_| self.ratio == 1.0)
+    }
+
+    /// 2, 3, 4, 16.
     pub fn tested(&self) -> Result<(), u32> {
         // Written so that a NaN is refused.
         if !(self.thresh > 0.0 && self.thresh < f64::INFINITY) {
@@ -103,7 +122,7 @@ impl Options {
         } else if self.max_iters == 0 || self.max_iters > MOST_ITERS {
             Err(ITERS)
         } else {
-            Ok(())
+            ratio_allowed(self.ratio)
         }
     }
 }
@@ -213,9 +232,10 @@ fn beyond_under_fit(trial: &Trial, marks: &[Mark]) -> u32 {
 }
 
 /// How many marks lie within the threshold, and the rms of their distances.
-fn score(thresh: f64, model: &Model, marks: &[Mark]) -> (u32, f64) {
+fn score(options: &Options, model: &Model, marks: &[Mark]) -> (u32, f64) {
+    let Options { thresh, ratio, .. } = *options;
     let (mut count, mut sum) = (0, 0.0);
-    for d in marks.iter().map(|mark| distance(model, mark)) {
+    for d in marks.iter().map(|mark| distance(model, mark, ratio)) {
         if d <= thresh {
             count += 1;
             sum += d * d;
@@ -253,13 +273,13 @@ fn judged_trial(options: &Options, trial: &Trial, marks: &[Mark], stops: &[u32])
     let Some(fit) = trial.fit else {
         return Judged::Empty;
     };
-    let of_fit = score(options.thresh, &fit, marks);
+    let of_fit = score(options, &fit, marks);
     if of_fit.0 < options.min_inliers {
         return Judged::Few(of_fit.0);
     }
     let (mut model, mut standing) = (fit, of_fit);
     if let (true, Some(refit)) = (options.refit, trial.refit) {
-        let of_refit = score(options.thresh, &refit, marks);
+        let of_refit = score(options, &refit, marks);
         if of_refit.0 >= options.min_inliers {
             (model, standing) = (refit, of_refit);
         }
@@ -389,7 +409,10 @@ impl Book {
 // A run's state, hand-made ones too.
 
 /// A state as flat words; the comparison's interface has it so.
-pub type Words = [u64; 24];
+pub type Words = [u64; 25];
+
+/// Where the ratio stands among them: last, behind the winner's.
+pub const RATIO_AT: usize = 24;
 
 #[derive(Clone, Copy, Debug)]
 pub struct State {
@@ -399,7 +422,7 @@ pub struct State {
 }
 
 impl State {
-    /// Opening from the type: 2 to 8.
+    /// Opening from the type: 2 to 4, 16, 5 to 8.
     pub fn open(options: Options, marks: &[f64], stops: &[u32]) -> Result<Self, u32> {
         options.tested()?;
         let n = marks_tested(marks, None)?.len();
@@ -413,7 +436,7 @@ impl State {
         })
     }
 
-    /// Opening from a record: 1 to 8.
+    /// Opening from a record: 1, and the same.
     pub fn open_record(record: &[u8], marks: &[f64], stops: &[u32]) -> Result<Self, u32> {
         Self::open(Options::of_record(record)?, marks, stops)
     }
@@ -441,7 +464,8 @@ impl State {
         if room < marks.len() {
             return Err(ROOM);
         }
-        let within = |mark: &Mark| distance(&winner.model, mark) <= self.options.thresh;
+        let Options { thresh, ratio, .. } = self.options;
+        let within = |mark: &Mark| distance(&winner.model, mark, ratio) <= thresh;
         let all = (0..).zip(marks);
         Ok(all
             .filter(|(_, mark)| within(mark))
@@ -452,7 +476,7 @@ impl State {
     /// Every NaN is written as one; without a winner its words are 0.
     pub fn words(&self) -> Words {
         let (options, book) = (&self.options, &self.book);
-        let mut words = [0; 24];
+        let mut words = [0; 25];
         words[..2].copy_from_slice(&[bits(options.thresh), bits(options.confidence)]);
         words[2] = options.max_iters.into();
         words[3] = options.min_inliers.into();
@@ -468,6 +492,7 @@ impl State {
             words[14] = bits(best.rms);
             crate::records::put(&mut words, 15, &best.model);
         }
+        words[RATIO_AT] = bits(options.ratio);
         words
     }
 
@@ -482,6 +507,7 @@ impl State {
                 max_iters: count(2),
                 min_inliers: count(3),
                 refit: words[4] == 1,
+                ratio: double(RATIO_AT),
             },
             n: words[5],
             book: Book {

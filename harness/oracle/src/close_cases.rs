@@ -4,6 +4,7 @@
 use crate::book::Options;
 use crate::cases::{Random, power_of_two, step};
 use crate::pick_cases::Case;
+use crate::ratio_cases;
 use crate::scoring::{places, rms, squared};
 use crate::sheet_cases::IDENTITY;
 use crate::{Mark, Model, Trial, distance, stop_list};
@@ -72,16 +73,20 @@ fn poor(random: &mut Random, h: &Model) -> Model {
     other
 }
 
-fn count_and_rms(thresh: f64, h: &Model, marks: &[Mark]) -> (usize, f64) {
-    let squares: Vec<f64> = marks.iter().map(|mark| squared(h, mark)).collect();
+/// What a candidate is scored by.
+type ThreshAndRatio = [f64; 2];
+
+fn count_and_rms([thresh, ratio]: ThreshAndRatio, h: &Model, marks: &[Mark]) -> (usize, f64) {
+    let all = marks.iter().map(|mark| squared(h, mark, ratio));
+    let squares: Vec<f64> = all.collect();
     let count = places(thresh, &squares).len();
     (count, rms(thresh, &squares, count as u32))
 }
 
 /// The candidates by rms, up or down, so that none wins but the first or each
 /// does; or as they come.
-fn ordered(random: &mut Random, thresh: f64, pool: &mut [Model], marks: &[Mark]) {
-    let by_rms = |h: &Model| count_and_rms(thresh, h, marks).1;
+fn ordered(random: &mut Random, by: ThreshAndRatio, pool: &mut [Model], marks: &[Mark]) {
+    let by_rms = |h: &Model| count_and_rms(by, h, marks).1;
     match random.below(3) {
         0 => pool.sort_by(|a, b| by_rms(a).total_cmp(&by_rms(b))),
         1 => pool.sort_by(|a, b| by_rms(b).total_cmp(&by_rms(a))),
@@ -91,8 +96,8 @@ fn ordered(random: &mut Random, thresh: f64, pool: &mut [Model], marks: &[Mark])
 
 /// A threshold that takes all near marks in, or one that is a distance under a
 /// candidate, or next to one.
-fn thresh(random: &mut Random, pool: &[Model], marks: &[Mark]) -> f64 {
-    let d = distance(&random.pick(pool), &random.pick(marks));
+fn thresh(random: &mut Random, pool: &[Model], marks: &[Mark], ratio: f64) -> f64 {
+    let d = distance(&random.pick(pool), &random.pick(marks), ratio);
     let usual = random.pick(&[1.0, 2.0, 4.0, 5.0]);
     match random.below(3) {
         0 if d > 0.0 && d < 10.0 => step(d, random.pick(&[0, 0, 0, -1, 1])),
@@ -138,9 +143,11 @@ pub fn close(random: &mut Random, i: usize) -> Case {
     let max_iters = random.from_to(2, most) as usize;
     let mut pool: Vec<Model> = (0..max_iters).map(|_| beside(random, &h)).collect();
     let marks: &[Mark] = list.as_chunks().0;
-    let thresh = thresh(random, &pool, marks);
-    ordered(random, thresh, &mut pool, marks);
-    let count = count_and_rms(thresh, &h, marks).0 as u32;
+    let ratio = ratio_cases::accepted(random);
+    let thresh = thresh(random, &pool, marks, ratio);
+    let by = [thresh, ratio];
+    ordered(random, by, &mut pool, marks);
+    let count = count_and_rms(by, &h, marks).0 as u32;
     let below = random.below(u64::from(count) + 1) as u32;
     let options = Options {
         thresh,
@@ -148,6 +155,7 @@ pub fn close(random: &mut Random, i: usize) -> Case {
         max_iters: max_iters as u32,
         min_inliers: random.pick(&[count, count, below, 0]),
         refit: random.below(2) == 0,
+        ratio,
     };
     let all = pool.iter().map(|&good| trial(random, good, &pool));
     Case {

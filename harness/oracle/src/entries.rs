@@ -1,5 +1,5 @@
 //! The sheet's entries as 01 has them: the original functions with 01's
-//! refusals in front, in 01's order.
+//! refusals in front, in 01's order, and 02's 16 where it belongs.
 //!
 //! Marks are one flat list, four numbers each. A side is 0 for the sheet and
 //! anything else for the pixels. Results go to a lent list: a refusal leaves
@@ -24,6 +24,8 @@ pub const SPREAD: u32 = 12;
 pub const SHEET_LINE: u32 = 13;
 /// Refusal 14 PIXEL LINE.
 pub const PIXEL_LINE: u32 = 14;
+/// Refusal 16 RATIO.
+pub const RATIO: u32 = 16;
 
 /// Three rows of three.
 pub type Matrix = [[f64; 3]; 3];
@@ -43,6 +45,16 @@ pub(crate) fn allowed(numbers: &[f64]) -> Result<(), u32> {
         Ok(())
     } else {
         Err(POINT)
+    }
+}
+
+/// 16 for a row ratio that is not finite, or not from 0.01 to 100.
+pub(crate) fn ratio_allowed(ratio: f64) -> Result<(), u32> {
+    // A NaN is in no range.
+    if (0.01..=100.0).contains(&ratio) {
+        Ok(())
+    } else {
+        Err(RATIO)
     }
 }
 
@@ -100,13 +112,14 @@ fn number(error: &GeometryError) -> u32 {
     }
 }
 
-/// Distance: 1 for the model, then 6 for the mark.
-pub fn distance(model: &Model, mark: &Mark) -> Result<Measure, u32> {
+/// Distance: 1 for the model, then 6 for the mark, then 16 for the ratio.
+pub fn distance(model: &Model, mark: &Mark, ratio: f64) -> Result<Measure, u32> {
     if !crate::ensure_finite(model) {
         return Err(RECORD);
     }
     allowed(mark)?;
-    Ok(sheet::measure(model, mark))
+    ratio_allowed(ratio)?;
+    Ok(sheet::measure(model, mark, ratio))
 }
 
 /// The first closeness test: at most 1e-9 by the root of the sum of squares.

@@ -12,6 +12,7 @@ pub mod example;
 mod numbers;
 mod pick;
 pub mod pick_cases;
+pub mod ratio_cases;
 pub mod records;
 pub mod scoring;
 pub mod scoring_cases;

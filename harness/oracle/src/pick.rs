@@ -1,4 +1,5 @@
-//! The picker: `ransac_fit` over recorded trials, and its parts.
+//! The picker: `ransac_fit` over recorded trials, and its parts. The residual
+//! is the distance by a row ratio.
 
 use crate::{Mark, Model, distance};
 use std::cell::{Cell, RefCell};
@@ -34,6 +35,19 @@ pub struct Run {
 thread_local! {
     static TRIALS: RefCell<VecDeque<Trial>> = const { RefCell::new(VecDeque::new()) };
     static REFIT: Cell<Option<Model>> = const { Cell::new(None) };
+    static RATIO: Cell<f64> = const { Cell::new(1.0) };
+}
+
+/// A recorded model, with the run's ratio: `residual` is given nothing else.
+#[derive(Clone)]
+struct Measuring {
+    model: Model,
+    ratio: f64,
+}
+
+fn measuring(model: Model) -> Measuring {
+    let ratio = RATIO.get();
+    Measuring { model, ratio }
 }
 
 /// Fits and refits are read from the recorded trials, in order.
@@ -41,34 +55,35 @@ struct Replayed;
 
 impl Estimator for Replayed {
     type Datum = Mark;
-    type Model = Model;
+    type Model = Measuring;
     const MIN_SAMPLES: usize = 4;
 
-    fn fit(_: &[Mark], _: &[usize]) -> Option<Model> {
+    fn fit(_: &[Mark], _: &[usize]) -> Option<Measuring> {
         let trial = TRIALS.with_borrow_mut(VecDeque::pop_front);
         let trial = trial.expect("a trial for each iteration, max_iters of them");
         REFIT.set(trial.refit);
-        trial.fit
+        trial.fit.map(measuring)
     }
 
-    fn residual(model: &Model, mark: &Mark) -> f64 {
-        distance(model, mark)
+    fn residual(by: &Measuring, mark: &Mark) -> f64 {
+        distance(&by.model, mark, by.ratio)
     }
 
-    fn refit(_: &[Mark], _: &[usize]) -> Option<Model> {
-        REFIT.get()
+    fn refit(_: &[Mark], _: &[usize]) -> Option<Measuring> {
+        REFIT.get().map(measuring)
     }
 }
 
 /// Runs the original over the recorded trials. It panics if they run out
 /// before the run ends: give it max_iters of them.
-pub fn ransac_fit(marks: &[Mark], options: &RansacOptions, trials: &[Trial]) -> Run {
+pub fn ransac_fit(marks: &[Mark], options: &RansacOptions, ratio: f64, trials: &[Trial]) -> Run {
     TRIALS.set(trials.iter().copied().collect());
+    RATIO.set(ratio);
     let best = ransac::ransac_fit::<Replayed>(marks, options);
     let left = TRIALS.take().len();
     Run {
-        winner: best.model.map(|model| Winner {
-            model,
+        winner: best.model.map(|by| Winner {
+            model: by.model,
             inliers: best.inliers,
             rms: best.inlier_rms,
             number: best.iters,

@@ -1,11 +1,15 @@
 //! Runs to compare on: over the reference's whole domain, with stop lists of
 //! any numbers, and damaged.
 
-use crate::book::{FIT_AT, Options, REFIT_AT, TRIAL_BYTES, WINNER_BYTES, trial_record};
+use crate::book::{
+    FIT_AT, OPTIONS_BYTES, Options, RATIO_AT, REFIT_AT, SHORT_OPTIONS_BYTES, TRIAL_BYTES,
+    WINNER_BYTES, Words, trial_record,
+};
 use crate::cases::{NANS, Random, asked, power_of_two, step, usually};
+use crate::ratio_cases;
 use crate::sheet_cases::{self, IDENTITY};
 use crate::whole::Inputs;
-use crate::{Mark, Model, RansacOptions, Trial, distance, stop_list};
+use crate::{Mark, Model, RansacOptions, Run, Trial, distance, ransac_fit, stop_list};
 
 /// How many runs: one costs as much as so many cases of a leaf, so
 /// SALGHEMU_CASES is divided by that; or the test's own number, times
@@ -33,13 +37,19 @@ impl Case {
         self.marks.as_chunks().0
     }
 
-    /// The options as the original wants them.
+    /// The options as the original wants them; it has no ratio.
     pub fn ransac_options(&self) -> RansacOptions {
         RansacOptions::new(self.options.thresh)
             .with_confidence(self.options.confidence)
             .with_max_iters(self.options.max_iters as usize)
             .with_min_inliers(self.options.min_inliers as usize)
             .with_refit_on_inliers(self.options.refit)
+    }
+
+    /// What the original gives for it.
+    pub fn ransac_fit(&self) -> Run {
+        let (marks, options) = (self.mark_list(), self.ransac_options());
+        ransac_fit(marks, &options, self.options.ratio, &self.trials)
     }
 
     pub fn bytes(&self) -> Bytes {
@@ -49,6 +59,15 @@ impl Case {
             stops: self.stops.iter().flat_map(|k| k.to_le_bytes()).collect(),
             trials: self.trials.iter().flat_map(trial_record).collect(),
         }
+    }
+
+    /// The same with options that have no ratio, where that is 1.
+    pub fn short_bytes(&self) -> Option<Bytes> {
+        let options = self.options.short_record()?.to_vec();
+        Some(Bytes {
+            options,
+            ..self.bytes()
+        })
     }
 }
 
@@ -228,16 +247,14 @@ fn sheet(random: &mut Random, i: usize, n: usize) -> (Vec<f64>, Vec<Model>) {
 // Options.
 
 /// A threshold: one that distances equal, one at or next to a distance that
-/// occurs, one of any size.
-fn thresh(random: &mut Random, marks: &[f64], pool: &[Model]) -> f64 {
+/// occurs by the ratio, one of any size.
+fn thresh(random: &mut Random, marks: &[f64], pool: &[Model], ratio: f64) -> f64 {
     match random.below(10) {
         0..=3 => random.pick(&[1.0, 2.0, 3.0, 5.0, 13.0, 17.0]),
         4 | 5 => {
             let mark = random.pick(marks.as_chunks::<4>().0);
-            let d = step(
-                distance(&random.pick(pool), &mark),
-                random.pick(&[0, 0, -1, 1]),
-            );
+            let d = distance(&random.pick(pool), &mark, ratio);
+            let d = step(d, random.pick(&[0, 0, -1, 1]));
             if d > 0.0 && d.is_finite() { d } else { 1.0 }
         }
         6 => random.sized(0, 2046).max(5e-324),
@@ -270,12 +287,14 @@ fn min_inliers(random: &mut Random, n: usize) -> u32 {
 fn options(random: &mut Random, marks: &[f64], pool: &[Model]) -> Options {
     let n = marks.len() / 4;
     let most = if n > 100 { 8 } else { 40 };
+    let ratio = ratio_cases::accepted(random);
     Options {
-        thresh: thresh(random, marks, pool),
+        thresh: thresh(random, marks, pool, ratio),
         confidence: confidence(random),
         max_iters: random.from_to(1, most) as u32,
         min_inliers: min_inliers(random, n),
         refit: random.below(2) == 0,
+        ratio,
     }
 }
 
@@ -359,13 +378,21 @@ fn put(bytes: &mut [u8], at: usize, value: &[u8]) {
     bytes[at..at + value.len()].copy_from_slice(value);
 }
 
-/// Options that are refused, 32 bytes or not.
+/// Lengths that options don't have: about both of theirs, and far from them.
+pub const NOT_OPTIONS: [usize; 8] = [0, 1, 24, 31, 33, 39, 41, 64];
+
+/// Whether a record of options has one of its two lengths.
+fn has_options_length(record: &[u8]) -> bool {
+    [SHORT_OPTIONS_BYTES, OPTIONS_BYTES].contains(&record.len())
+}
+
+/// Options that are refused, with or without a ratio.
 pub fn damage_options(random: &mut Random, record: &mut Vec<u8>) {
     let nan = f64::from_bits(random.pick(&NANS));
     let bad = random.pick(&[nan, 0.0, -0.0, -1.0, f64::INFINITY, f64::NEG_INFINITY]);
     let byte = 1 + random.below(255) as u8;
-    match random.below(6) {
-        0 => relength(random, record, 0, 33),
+    match random.below(7) {
+        0 => record.resize(random.pick(&NOT_OPTIONS), 0),
         1 => record[24] = byte.max(2),
         2 => record[25 + random.below(7) as usize] = byte,
         3 => put(record, 0, &bad.to_le_bytes()),
@@ -373,9 +400,13 @@ pub fn damage_options(random: &mut Random, record: &mut Vec<u8>) {
             let bad = random.pick(&[bad, 1.0, step(1.0, 1), 2.0]);
             put(record, 8, &bad.to_le_bytes());
         }
-        _ => {
+        5 => {
             let bad: u32 = random.pick(&[0, 100_001, u32::MAX]);
             put(record, 16, &bad.to_le_bytes());
+        }
+        _ => {
+            record.resize(OPTIONS_BYTES, 0);
+            put(record, 32, &ratio_cases::refused(random).to_le_bytes());
         }
     }
 }
@@ -477,13 +508,16 @@ fn damage(random: &mut Random, bytes: &mut Bytes) {
     }
 }
 
-/// The i-th run as bytes, some of them damaged in one place, some in two or
-/// three, so that the order of the refusals shows.
+/// The i-th run as bytes, its options with a ratio or without, some of them
+/// damaged in one place, some in two or three, so that the order of the
+/// refusals shows.
 pub fn damaged(random: &mut Random, i: usize) -> Bytes {
-    let mut bytes = any_stops(random, i).bytes();
+    let case = any_stops(random, i);
+    let short = case.short_bytes().filter(|_| random.below(2) == 0);
+    let mut bytes = short.unwrap_or_else(|| case.bytes());
     for _ in 0..random.pick(&[0, 1, 1, 1, 2, 3]) {
         // A record that is no longer one can't be damaged again.
-        if bytes.options.len() == 32 {
+        if has_options_length(&bytes.options) {
             damage(random, &mut bytes);
         }
     }
@@ -510,15 +544,21 @@ pub fn rooms(random: &mut Random, marks: &[u8]) -> [usize; 2] {
 
 /// Words of a state that no run gives: for a list of n marks, and built on
 /// this run's state. Now and then it is one only for its threshold, under which
-/// every mark lies or none.
-pub fn hand_made(random: &mut Random, words: &mut [u64; 24], pool: &[Model]) {
-    if random.below(8) == 0 {
-        let nan = random.pick(&NANS);
-        words[0] = random.pick(&[f64::INFINITY.to_bits(), nan]);
-        return;
+/// every mark lies or none, and now and then only for its ratio.
+pub fn hand_made(random: &mut Random, words: &mut Words, pool: &[Model]) {
+    match random.below(8) {
+        0 => {
+            let nan = random.pick(&NANS);
+            return words[0] = random.pick(&[f64::INFINITY.to_bits(), nan]);
+        }
+        1 => return words[RATIO_AT] = ratio_cases::any(random).to_bits(),
+        _ => {}
     }
     for _ in 0..random.from_to(1, 4) {
-        let place = random.below(15) as usize;
+        let place = match random.below(16) {
+            15 => RATIO_AT,
+            place => place as usize,
+        };
         words[place] = match place {
             0 | 1 => hand_made_double(random),
             2 => random.pick(&[0, 1, 5, 100_000, 100_001, (1 << 32) - 1, (1 << 32) + 7]),
@@ -531,6 +571,7 @@ pub fn hand_made(random: &mut Random, words: &mut [u64; 24], pool: &[Model]) {
             }
             6..=10 => hand_made_count(random),
             12 | 13 => random.pick(&[0, 1, 3, 4, 5, 2000, (1 << 32) - 1, (5 << 32) + 4]),
+            RATIO_AT => ratio_cases::any(random).to_bits(),
             _ => hand_made_double(random),
         };
     }

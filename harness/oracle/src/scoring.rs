@@ -4,11 +4,11 @@
 use crate::sheet::squared_apart;
 use crate::{Mark, Model, beyond};
 
-/// The square that 01's distance is the root of.
-pub fn squared(h: &Model, mark: &Mark) -> f64 {
+/// The square that the distance is the root of.
+pub fn squared(h: &Model, mark: &Mark, ratio: f64) -> f64 {
     match beyond(h, mark) {
         true => f64::INFINITY,
-        false => squared_apart(h, mark),
+        false => squared_apart(h, mark, ratio),
     }
 }
 

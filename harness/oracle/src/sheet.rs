@@ -1,5 +1,5 @@
 //! Marks: normalising, collinear, the rows, and 01's distance, with order 2's
-//! beyond.
+//! beyond and order 3's row ratio.
 
 use vision_calibration_core::{Pt2, linalg};
 use vision_geometry::{GeometryError, homography};
@@ -57,27 +57,28 @@ pub fn beyond(h: &Model, mark: &Mark) -> bool {
     !(divisor(h, mark) > 0.0)
 }
 
-/// 01's du·du + dv·dv, for a mark that isn't beyond.
-pub(crate) fn squared_apart(h: &Model, mark: &Mark) -> f64 {
+/// 01's du·du + dv·dv, for a mark that isn't beyond, with the difference along
+/// v multiplied by the ratio before squaring, as 02's order 3 has it.
+pub(crate) fn squared_apart(h: &Model, mark: &Mark, ratio: f64) -> f64 {
     let (s, &[x, y, u, v]) = (divisor(h, mark), mark);
     let du = ((h[0] * x + h[1] * y) + h[2]) / s - u;
-    let dv = ((h[3] * x + h[4] * y) + h[5]) / s - v;
+    let dv = (((h[3] * x + h[4] * y) + h[5]) / s - v) * ratio;
     du * du + dv * dv
 }
 
-/// 01's distance, the residual of the replayed estimator: infinite where the
-/// mark is beyond.
-pub fn distance(h: &Model, mark: &Mark) -> f64 {
+/// The distance by a row ratio, the residual of the replayed estimator:
+/// infinite where the mark is beyond. 01's own is that by 1.
+pub fn distance(h: &Model, mark: &Mark, ratio: f64) -> f64 {
     match beyond(h, mark) {
         true => f64::INFINITY,
-        false => squared_apart(h, mark).sqrt(),
+        false => squared_apart(h, mark, ratio).sqrt(),
     }
 }
 
 /// The same, with beyond told from a number, which may be infinite too.
-pub fn measure(h: &Model, mark: &Mark) -> Measure {
+pub fn measure(h: &Model, mark: &Mark, ratio: f64) -> Measure {
     match beyond(h, mark) {
         true => Measure::Beyond,
-        false => Measure::Distance(distance(h, mark)),
+        false => Measure::Distance(distance(h, mark, ratio)),
     }
 }

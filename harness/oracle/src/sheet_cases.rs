@@ -2,6 +2,7 @@
 //! random ones.
 
 use crate::cases::{NANS, Random, power_of_two, step};
+use crate::ratio_cases::{LEAST, MOST};
 use crate::{Mark, Model, Point};
 
 /// 01's square without its middle.
@@ -416,6 +417,46 @@ pub fn distance_traps() -> Vec<(Model, Mark)> {
         (model([(0, 0.1), (1, 0.2), (2, 0.3), (8, 0.7)]), [0.1; 4]),
         ([-0.0; 9], [0.0; 4]),
     ]
+}
+
+/// The same with row ratios: at both ends and next to them, between, and
+/// refused ones; their place in the order; and where the single roundings show.
+pub fn ratio_traps() -> Vec<(Model, Mark, f64)> {
+    let (inf, nan) = (f64::INFINITY, f64::NAN);
+    // Off by 4 and -3.
+    let mark = [50.0, 50.0, 46.0, 53.0];
+    let mut list = Vec::new();
+    for end in [LEAST, MOST] {
+        list.extend([-1, 0, 1].map(|k| (IDENTITY, mark, step(end, k))));
+    }
+    for ratio in [0.5, 1.0, 2.0, nan, inf, -inf, 0.0, -0.0, -1.0, -LEAST] {
+        list.push((IDENTITY, mark, ratio));
+    }
+    let (behind, none) = (model([(8, -1.0)]), model([(8, nan)]));
+    let wide = [50.0, 50.0, 46.0, 2e9];
+    list.extend([
+        // 1, then 6, then 16, and beyond after all of them.
+        (none, wide, 0.0),
+        (none, mark, 0.0),
+        (IDENTITY, wide, 0.0),
+        (behind, mark, 0.0),
+        (behind, mark, 2.0),
+        // A difference along u alone, and along v alone.
+        (IDENTITY, [50.0, 50.0, 46.0, 50.0], 2.0),
+        (IDENTITY, [50.0, 50.0, 50.0, 53.0], 2.0),
+        // The product is rounded, vanishes and overflows; so does its square.
+        (IDENTITY, [0.0, 0.1, 0.3, 0.7], 0.1),
+        (IDENTITY, [0.0, 1.1, 0.3, 0.0], 1.0 / 3.0),
+        (IDENTITY, [0.0, 0.0, 0.0, 5e-324], LEAST),
+        (IDENTITY, [0.0, 0.0, 0.0, 1e-160], LEAST),
+        (model([(5, 1e308)]), mark, MOST),
+        (model([(5, 1e153)]), mark, MOST),
+        (model([(5, 1e155)]), mark, LEAST),
+        // A difference along v that is infinite, and one that is a NaN.
+        (model([(3, 1e300)]), [1e9, 1e9, 3.0, 4.0], LEAST),
+        (model([(3, 1e300), (4, -1e300)]), [1e9, 1e9, 3.0, 4.0], 2.0),
+    ]);
+    list
 }
 
 /// The i-th random model and mark.

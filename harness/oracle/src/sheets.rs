@@ -7,10 +7,10 @@
 //! |---|---|
 //! | 0 | the kind: 1 normalising, 2 collinear, 3 rows, 4 distance |
 //! | 1 | the side: 0 sheet, 1 pixel; 0 for kinds 3 and 4 |
-//! | 2 | how many numbers the input has: 0 to 20; 13 for kind 4 |
+//! | 2 | how many numbers the input has: 0 to 20; 14 for kind 4 |
 //! | 3 | the lent list's length: 0 to 91; 0 for kinds 2 and 4 |
 //! | 4 | the refusal's number, 0 for none |
-//! | 5 to 24 | the input: marks, or for kind 4 the model h0 to h8, then x, y, u, v |
+//! | 5 to 24 | the input: marks, or for kind 4 the model h0 to h8, then x, y, u, v, then the row ratio |
 //! | 25 to 115 | the lent list after the call; before it every place holds 7.0 |
 //! | 116 to 124 | kind 1: the matrix, row after row; kind 2 at 116: 0 no, 1 yes; kind 4 at 116: the distance, at 117: 1 where the mark is beyond, with 116 zero, else 0 |
 //! | 125 to 127 | zero |
@@ -21,9 +21,11 @@
 
 use crate::cases::Random;
 use crate::entries;
+use crate::ratio_cases;
 use crate::records::{bits, put};
 use crate::sheet_cases::{
-    self, SQUARE, both, distance_traps, line_traps, refused_traps, spread_traps, usual_traps,
+    self, SQUARE, both, distance_traps, line_traps, ratio_traps, refused_traps, spread_traps,
+    usual_traps,
 };
 use crate::{Mark, Measure, Model};
 
@@ -34,7 +36,8 @@ pub const FILE: &str = "replay_sheet/data/sheets.bin";
 
 /// How many records of each kind, but for the lists whose sides differ.
 const EACH: usize = 50;
-/// How many lists of each kind whose sides differ in their answers.
+/// How many lists of each kind whose sides differ in their answers, and how
+/// many random distances by a ratio.
 const DIFFERENT: usize = 10;
 /// What a lent list holds before the call.
 const BEFORE: f64 = 7.0;
@@ -177,12 +180,20 @@ fn rows(random: &mut Random) -> Vec<Record> {
     list
 }
 
+/// Those of ratio 1, and then those by a ratio.
 fn distances(random: &mut Random) -> Vec<Record> {
-    let mut list = distance_traps();
-    for i in list.len()..EACH {
-        list.push(sheet_cases::distance(random, i));
+    let mut pairs = distance_traps();
+    for i in pairs.len()..EACH {
+        pairs.push(sheet_cases::distance(random, i));
     }
-    list.iter().map(|(h, mark)| of_distance(h, mark)).collect()
+    let mut list: Vec<_> = pairs.into_iter().map(|(h, mark)| (h, mark, 1.0)).collect();
+    list.extend(ratio_traps());
+    for i in 0..DIFFERENT {
+        let (h, mark) = sheet_cases::distance(random, i);
+        list.push((h, mark, ratio_cases::accepted(random)));
+    }
+    let records = list.iter().map(|(h, mark, by)| of_distance(h, mark, *by));
+    records.collect()
 }
 
 /// A record up to its input.
@@ -231,9 +242,9 @@ fn of_rows(marks: &[f64], room: usize) -> Record {
     record
 }
 
-fn of_distance(h: &Model, mark: &Mark) -> Record {
-    let mut record = record(4, 0, &[h.as_slice(), mark].concat());
-    match entries::distance(h, mark) {
+fn of_distance(h: &Model, mark: &Mark, ratio: f64) -> Record {
+    let mut record = record(4, 0, &[h.as_slice(), mark, &[ratio]].concat());
+    match entries::distance(h, mark, ratio) {
         Ok(Measure::Distance(number)) => record[ANSWER] = bits(number),
         Ok(Measure::Beyond) => record[BEYOND] = 1,
         Err(number) => record[4] = number.into(),

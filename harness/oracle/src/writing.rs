@@ -19,6 +19,7 @@ pub struct OptionsNumbers {
     pub max_iters: u32,
     pub min_inliers: u32,
     pub refit_mark: u8,
+    pub ratio: f64,
 }
 
 /// A trial's: the marks are any bytes, and the lists of any length.
@@ -37,12 +38,14 @@ fn doubles(numbers: &[f64]) -> Vec<u8> {
 }
 
 impl OptionsNumbers {
-    /// Threshold and confidence, the two counts, the mark, seven zero bytes.
+    /// Threshold and confidence, the two counts, the mark, seven zero bytes, the
+    /// ratio.
     pub fn packed(&self) -> Vec<u8> {
         let mut bytes = doubles(&[self.thresh, self.confidence]);
         bytes.extend(self.max_iters.to_le_bytes());
         bytes.extend(self.min_inliers.to_le_bytes());
         bytes.extend([self.refit_mark, 0, 0, 0, 0, 0, 0, 0]);
+        bytes.extend(self.ratio.to_le_bytes());
         bytes
     }
 }
@@ -82,7 +85,7 @@ fn is_set(mark: u8) -> Result<bool, u32> {
     }
 }
 
-/// 1 for the mark, 2, 3, 4, 9.
+/// 1 for the mark, 2, 3, 4, 16, 9.
 pub fn options(numbers: &OptionsNumbers, room: usize) -> Result<Vec<u8>, u32> {
     let options = Options {
         thresh: numbers.thresh,
@@ -90,6 +93,7 @@ pub fn options(numbers: &OptionsNumbers, room: usize) -> Result<Vec<u8>, u32> {
         max_iters: numbers.max_iters,
         min_inliers: numbers.min_inliers,
         refit: is_set(numbers.refit_mark)?,
+        ratio: numbers.ratio,
     };
     options.tested()?;
     let record = numbers.packed();

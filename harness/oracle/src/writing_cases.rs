@@ -2,7 +2,9 @@
 //! random ones.
 
 use crate::Mark;
+use crate::book::SHORT_OPTIONS_BYTES;
 use crate::cases::{NANS, Random, step};
+use crate::ratio_cases;
 use crate::writing::{OptionsNumbers, TrialNumbers, packed_mark};
 
 /// The numbers at which a test turns, with their neighbours, and those
@@ -60,6 +62,7 @@ pub fn options(random: &mut Random) -> OptionsNumbers {
         _ => 0.01 + 10.0 * random.unit(),
     };
     let confidence = random.unit();
+    let ratio = ratio_cases::accepted(random);
     OptionsNumbers {
         thresh: mostly(random, thresh),
         confidence: mostly(random, confidence),
@@ -72,6 +75,11 @@ pub fn options(random: &mut Random) -> OptionsNumbers {
         refit_mark: match random.below(12) {
             0 => random.word() as u8,
             _ => random.below(2) as u8,
+        },
+        ratio: match random.below(16) {
+            0 => random.pick(&ratio_cases::limits()),
+            1 => random.pattern(),
+            _ => ratio,
         },
     }
 }
@@ -147,7 +155,7 @@ fn changed(random: &mut Random, mut bytes: Vec<u8>) -> Vec<u8> {
         0 => bytes
             .iter_mut()
             .for_each(|byte| *byte = random.word() as u8),
-        1 => bytes.resize(random.pick(&[0, 31, 33, 151, 153]), 0),
+        1 => bytes.resize(random.pick(&[0, 31, 33, 39, 41, 64, 151, 153]), 0),
         2..=8 => {
             for _ in 0..random.from_to(1, 3) {
                 let bit = random.below(bits);
@@ -159,8 +167,12 @@ fn changed(random: &mut Random, mut bytes: Vec<u8>) -> Vec<u8> {
     bytes
 }
 
+/// With a ratio, or now and then cut before it.
 pub fn options_record(random: &mut Random) -> Vec<u8> {
-    let bytes = options(random).packed();
+    let mut bytes = options(random).packed();
+    if random.below(4) == 0 {
+        bytes.truncate(SHORT_OPTIONS_BYTES);
+    }
     changed(random, bytes)
 }
 

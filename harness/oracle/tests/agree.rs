@@ -4,7 +4,8 @@
 use oracle::book::{Best, Book, Call, Options, Outcome, State, trial_record};
 use oracle::cases::Random;
 use oracle::pick_cases::{Case, reference, runs};
-use oracle::{Trial, Winner, distance, ransac_fit, stop_list};
+use oracle::ratio_cases::{LEAST, MOST};
+use oracle::{Run, Trial, Winner, distance, stop_list};
 
 /// What came up, so that a run of many shows that the domain was reached.
 #[derive(Debug, Default)]
@@ -25,8 +26,17 @@ struct Tally {
     empty: usize,
     few: usize,
     refit_stands: usize,
-    /// A distance is the threshold.
+    /// A distance is the threshold, by ratio 1 or another.
     at_thresh: usize,
+    at_thresh_by_ratio: usize,
+    /// Runs by ratio 1, both ends, and any other below and above 1.
+    one: usize,
+    least: usize,
+    most: usize,
+    finer: usize,
+    coarser: usize,
+    /// Runs that by ratio 1 would end elsewhere or have another winner.
+    decided: usize,
 }
 
 impl Tally {
@@ -44,6 +54,13 @@ impl Tally {
             self.few,
             self.refit_stands,
             self.at_thresh,
+            self.at_thresh_by_ratio,
+            self.one,
+            self.least,
+            self.most,
+            self.finer,
+            self.coarser,
+            self.decided,
         ];
         assert!(counts.iter().all(|&count| count > 0), "{self:?}");
     }
@@ -71,9 +88,32 @@ impl Tally {
             }
         }
         if let Some(fit) = &trial.fit {
-            let met = |mark| distance(fit, mark) == case.options.thresh;
-            self.at_thresh += usize::from(case.mark_list().iter().any(met));
+            let Options { thresh, ratio, .. } = case.options;
+            let met = |mark| distance(fit, mark, ratio) == thresh;
+            let met = case.mark_list().iter().any(met);
+            self.at_thresh += usize::from(met && ratio == 1.0);
+            self.at_thresh_by_ratio += usize::from(met && ratio != 1.0);
         }
+    }
+
+    /// Counts a run's ratio, and whether the original gives something else by 1.
+    fn ratio(&mut self, case: &Case, theirs: &Run) {
+        let ratio = case.options.ratio;
+        self.one += usize::from(ratio == 1.0);
+        self.least += usize::from(ratio == LEAST);
+        self.most += usize::from(ratio == MOST);
+        self.finer += usize::from(LEAST < ratio && ratio < 1.0);
+        self.coarser += usize::from(1.0 < ratio && ratio < MOST);
+        let mut by_one = case.clone();
+        by_one.options.ratio = 1.0;
+        let other = by_one.ransac_fit();
+        let told = |run: &Run| {
+            let winner = run.winner.as_ref();
+            winner.map(|best| (best.number, best.inliers.len(), best.rms.to_bits()))
+        };
+        let differs = (told(theirs), theirs.read) != (told(&other), other.read);
+        self.decided += usize::from(differs);
+        assert!(!differs || ratio != 1.0, "{case:?}");
     }
 }
 
@@ -120,12 +160,13 @@ fn same_winner(case: &Case, state: &State, theirs: Winner) {
 }
 
 fn agree(case: &Case, tally: &mut Tally) {
-    let theirs = ransac_fit(case.mark_list(), &case.ransac_options(), &case.trials);
+    let theirs = case.ransac_fit();
     let state = booked(case, tally);
     let book = &state.book;
     assert_eq!(book.read as usize, theirs.read, "{case:?}");
     assert_eq!(book.read, book.empty + book.few + book.scored);
     tally.runs += 1;
+    tally.ratio(case, &theirs);
     tally.ended_early += usize::from(theirs.read < case.trials.len());
     match theirs.winner {
         Some(winner) => same_winner(case, &state, winner),
@@ -162,6 +203,7 @@ fn the_longest_run() {
         max_iters: 100_000,
         min_inliers: 1,
         refit: true,
+        ratio: 0.5,
     };
     case.options = options;
     case.marks.truncate(16);
@@ -174,7 +216,7 @@ fn the_longest_run() {
 }
 
 /// The original accepts the options that 01 accepts, apart from the ceiling on
-/// max_iters, which is 01's own.
+/// max_iters, which is 01's own; the ratio, which it doesn't have, is accepted.
 #[test]
 fn options_are_validated_alike() {
     let random = &mut Random::new(22);
@@ -195,7 +237,8 @@ fn options_are_validated_alike() {
     assert!(accepted.iter().all(|&count| count > 500), "{accepted:?}");
 }
 
-/// The maker from a threshold alone has the original's defaults.
+/// The maker from a threshold alone has the original's defaults, and 1 for the
+/// ratio.
 #[test]
 fn defaults_are_the_originals() {
     let theirs = oracle::RansacOptions::new(1.5);
@@ -203,5 +246,5 @@ fn defaults_are_the_originals() {
     assert_eq!(ours.max_iters as usize, theirs.max_iters);
     assert_eq!(ours.min_inliers as usize, theirs.min_inliers);
     assert_eq!((ours.thresh, ours.confidence), (1.5, theirs.confidence));
-    assert_eq!(ours.refit, theirs.refit_on_inliers);
+    assert_eq!((ours.refit, ours.ratio), (theirs.refit_on_inliers, 1.0));
 }

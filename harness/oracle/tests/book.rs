@@ -1,6 +1,8 @@
-//! The book on 01's sheets to try, its records, its refusals and their orders.
+//! The book on 01's sheets to try, its records, its refusals and their orders,
+//! and 02's row ratio.
 
 use oracle::book::{Answer, Best, Book, Call, Options, State, trial_of_record, trial_record};
+use oracle::cases::step;
 use oracle::example::{self, BEHIND, I, SQUARE, T};
 use oracle::whole::{printed, run};
 use oracle::{Model, Trial};
@@ -14,7 +16,13 @@ fn options(thresh: f64, max_iters: u32, min_inliers: u32, refit: bool) -> Option
         max_iters,
         min_inliers,
         refit,
+        ratio: 1.0,
     }
+}
+
+/// The same by a row ratio.
+fn by(ratio: f64, options: Options) -> Options {
+    Options { ratio, ..options }
 }
 
 fn open(options: Options) -> State {
@@ -62,18 +70,44 @@ fn one_trial_each() {
     }
 }
 
+/// The middle mark is three off along v under I, and the four others under T.
+#[test]
+fn one_trial_each_by_a_ratio() {
+    let cases = [
+        (2.0, 0.5, I, (4, 5, 0.45f64.sqrt())),
+        (2.0, 2.0, I, (4, 4, 0.0)),
+        (6.0, 2.0, I, (4, 5, 7.2f64.sqrt())),
+        (step(6.0, -1), 2.0, I, (4, 4, 0.0)),
+        (2.0, 0.5, T, (4, 5, 1.8f64.sqrt())),
+        (5.0, 2.0, T, (2, 1, 0.0)),
+        (2.0, 0.5, BEHIND, (2, 0, 0.0)),
+    ];
+    for (thresh, ratio, model, expected) in cases {
+        let mut state = open(by(ratio, options(thresh, 10, 4, false)));
+        let answer = try_one(&mut state, &fit(model));
+        assert_eq!(told(answer), expected, "{thresh:e} {ratio:e}");
+        assert_eq!(answer.beyond, if model == BEHIND { 5 } else { 0 });
+        if expected.0 == 4 {
+            let indices = state.winner_indices(&SQUARE, 5).expect("a winner");
+            assert_eq!(indices.len() as u64, expected.1);
+        }
+    }
+}
+
 #[test]
 fn a_refit_stands_if_it_reaches_the_minimum() {
     let both = trial_record(&Trial {
         fit: Some(I),
         refit: Some(T),
     });
-    for (min, refit, expected, standing) in [
-        (4, true, (4, 4, 0.0), I),
-        (1, true, (4, 1, 0.0), T),
-        (1, false, (4, 4, 0.0), I),
+    for (min, refit, ratio, expected, standing) in [
+        (4, true, 1.0, (4, 4, 0.0), I),
+        (1, true, 1.0, (4, 1, 0.0), T),
+        (1, false, 1.0, (4, 4, 0.0), I),
+        // Under T four marks are 1.5 off.
+        (4, true, 0.5, (4, 5, 1.8f64.sqrt()), T),
     ] {
-        let mut state = open(options(2.0, 10, min, refit));
+        let mut state = open(by(ratio, options(2.0, 10, min, refit)));
         assert_eq!(told(try_one(&mut state, &both)), expected);
         assert_eq!(state.book.winner.expect("a winner").model, standing);
     }
@@ -224,10 +258,15 @@ fn openings_refuse_in_their_order() {
         ..good
     };
     let marks7 = &SQUARE[..7];
-    let cases: [(Options, &[f64], &[u32], u32); 9] = [
-        (bad_all, marks7, &[], 2),
-        (with(2.0, 1.0, 0), marks7, &[], 3),
-        (with(2.0, 0.5, 100_001), marks7, &[], 4),
+    let cases: [(Options, &[f64], &[u32], u32); 14] = [
+        (by(nan, bad_all), marks7, &[], 2),
+        (by(nan, with(2.0, 1.0, 0)), marks7, &[], 3),
+        (by(nan, with(2.0, 0.5, 100_001)), marks7, &[], 4),
+        (by(nan, good), marks7, &[], 16),
+        (by(nan, good), &[nan; 8], &[], 16),
+        (by(nan, good), &SQUARE[..12], &[], 16),
+        (by(nan, good), &SQUARE, &STOPS[..5], 16),
+        (by(nan, good), &SQUARE, &STOPS, 16),
         (good, marks7, &[], 5),
         (good, &[nan; 8], &[], 6),
         (good, &SQUARE[..12], &[], 7),
@@ -241,8 +280,71 @@ fn openings_refuse_in_their_order() {
         let record = options.record();
         let answer = State::open_record(&record, marks, stops).err().unwrap_or(0);
         assert_eq!(answer, number, "{options:?}");
-        let refused = State::open_record(&record[..31], marks, stops).err();
+        let refused = State::open_record(&record[..39], marks, stops).err();
         assert_eq!(refused, Some(1));
+    }
+}
+
+/// Both ends of the ratio, their neighbours, and what is no ratio.
+#[test]
+fn ratios_of_openings() {
+    let (good, inf) = (options(2.0, 10, 4, false), f64::INFINITY);
+    for (ratio, number) in [
+        (0.01, 0),
+        (step(0.01, 1), 0),
+        (1.0, 0),
+        (step(100.0, -1), 0),
+        (100.0, 0),
+        (step(0.01, -1), 16),
+        (step(100.0, 1), 16),
+        (0.0, 16),
+        (-0.0, 16),
+        (-1.0, 16),
+        (5e-324, 16),
+        (f64::MAX, 16),
+        (inf, 16),
+        (-inf, 16),
+        (f64::NAN, 16),
+    ] {
+        let record = by(ratio, good).record();
+        let answer = State::open_record(&record, &SQUARE, &STOPS);
+        assert_eq!(answer.err().unwrap_or(0), number, "{ratio:e}");
+    }
+}
+
+/// 32 bytes and 40 are records, of ratio 1 and of the last eight bytes' ratio.
+#[test]
+fn lengths_of_options() {
+    let good = by(1.0, options(2.0, 10, 4, true));
+    let (long, short) = (good.record(), good.short_record());
+    let short = short.expect("ratio 1");
+    assert_eq!((long.len(), short.len()), (40, 32));
+    assert_eq!(long[..32], short);
+    let words = |record: &[u8]| {
+        let state = State::open_record(record, &SQUARE, &STOPS);
+        state.map(|state| state.words())
+    };
+    assert_eq!(words(&short), words(&long));
+    assert!(words(&short).is_ok());
+    for ratio in [0.01, 0.5, step(1.0, 1), 100.0] {
+        let other = by(ratio, good);
+        assert!(other.short_record().is_none());
+        assert_ne!(words(&other.record()), words(&short));
+        let read = Options::of_record(&other.record()).expect("a record");
+        assert_eq!(read.ratio, ratio);
+    }
+    for len in [0, 1, 24, 31, 33, 39, 41, 48, 64] {
+        let mut record = long.to_vec();
+        record.resize(len, 0);
+        assert_eq!(words(&record), Err(1), "{len} bytes");
+    }
+    // The filler stays filler, and the ratio's bytes are none.
+    for place in 25..32 {
+        for record in [&long[..], &short] {
+            let mut record = record.to_vec();
+            record[place] = 1;
+            assert_eq!(words(&record), Err(1));
+        }
     }
 }
 
@@ -313,7 +415,7 @@ fn malformed_trials() {
 
 #[test]
 fn records_come_back() {
-    let options = options(2.5, 7, 3, true);
+    let options = by(0.75, options(2.5, 7, 3, true));
     let again = Options::of_record(&options.record()).expect("a record");
     assert_eq!(again.record(), options.record());
     let trial = Trial {
@@ -365,6 +467,44 @@ fn hand_made_states() {
         assert_eq!((told(answer), answer.beyond), ((2, 0, 0.0), beyond));
     }
     assert_eq!(all.winner_indices(&SQUARE, 5), Ok(vec![]));
+}
+
+/// A ratio that no opening accepts is used as it is. Under I the middle mark
+/// is off along v, and the others are off by nothing.
+#[test]
+fn hand_made_ratios() {
+    let (inf, nan) = (f64::INFINITY, f64::NAN);
+    for (thresh, ratio, expected) in [
+        // Nothing is off along v any more.
+        (2.0, 0.0, (4, 5, 0.0)),
+        (2.0, -0.0, (4, 5, 0.0)),
+        (2.0, -1.0, (4, 4, 0.0)),
+        (3.0, -1.0, (4, 5, 1.8f64.sqrt())),
+        (2.0, 5e-324, (4, 5, 0.0)),
+        (2.0, 1e300, (4, 4, 0.0)),
+        (2.0, nan, (2, 0, 0.0)),
+        // 0 times infinity is a NaN, and 3 times it is far.
+        (2.0, inf, (2, 0, 0.0)),
+        (inf, inf, (2, 1, 0.0)),
+        (inf, -inf, (2, 1, 0.0)),
+        (inf, 1e300, (4, 5, inf)),
+        (inf, nan, (2, 0, 0.0)),
+    ] {
+        let mut fresh = open(options(2.0, 10, 4, false));
+        (fresh.options.thresh, fresh.options.ratio) = (thresh, ratio);
+        let mut state = fresh;
+        let answer = try_one(&mut state, &fit(I));
+        assert_eq!(told(answer), expected, "{thresh:e} {ratio:e}");
+        assert_eq!(answer.beyond, 0);
+        // Beyond knows no ratio.
+        assert_eq!(try_one(&mut state, &fit(BEHIND)).beyond, 5);
+        // Scored by any count, the rms is no NaN, and the indices are as many.
+        fresh.options.min_inliers = 0;
+        try_one(&mut fresh, &fit(I));
+        let indices = fresh.winner_indices(&SQUARE, 5).expect("a winner");
+        assert_eq!(indices.len() as u64, expected.1);
+        assert!(fresh.book.winner.is_some_and(|best| !best.rms.is_nan()));
+    }
 }
 
 #[test]

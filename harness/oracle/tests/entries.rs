@@ -198,33 +198,65 @@ fn rows_refused_in_order() {
 #[test]
 fn distances() {
     let mark = [50.0, 50.0, 50.0, 53.0];
-    assert_eq!(distance(&IDENTITY, &mark), Ok(Measure::Distance(3.0)));
+    assert_eq!(distance(&IDENTITY, &mark, 1.0), Ok(Measure::Distance(3.0)));
     for place in 0..9 {
         for bad in [f64::NAN, f64::INFINITY, f64::NEG_INFINITY] {
             let mut h = IDENTITY;
             h[place] = bad;
-            assert_eq!(distance(&h, &mark), Err(1));
+            assert_eq!(distance(&h, &mark, 1.0), Err(1));
             // 1 comes before 6.
-            assert_eq!(distance(&h, &[bad; 4]), Err(1));
+            assert_eq!(distance(&h, &[bad; 4], 1.0), Err(1));
         }
     }
     for place in 0..4 {
         for (number, answer) in [(1e9, true), (step(1e9, 1), false), (f64::NAN, false)] {
             let mut damaged = mark;
             damaged[place] = number;
-            assert_eq!(distance(&IDENTITY, &damaged).is_ok(), answer);
+            assert_eq!(distance(&IDENTITY, &damaged, 1.0).is_ok(), answer);
         }
     }
-    assert_eq!(distance(&[f64::MAX; 9], &[0.0, 0.0, 0.0, 2e9]), Err(6));
+    assert_eq!(distance(&[f64::MAX; 9], &[0.0, 0.0, 0.0, 2e9], 1.0), Err(6));
     // A model of any size is taken, and a NaN is an answer.
     let mut h = IDENTITY;
     (h[0], h[6]) = (1e300, 1e300);
-    let answer = distance(&h, &[1e9, 0.0, 3.0, 4.0]);
+    let answer = distance(&h, &[1e9, 0.0, 3.0, 4.0], 1.0);
     assert!(matches!(answer, Ok(Measure::Distance(d)) if d.is_nan()));
     // Refused before it is beyond.
     h[6] = -1.0;
-    assert_eq!(distance(&h, &mark), Ok(Measure::Beyond));
-    assert_eq!(distance(&h, &[50.0, 50.0, 50.0, 2e9]), Err(6));
+    assert_eq!(distance(&h, &mark, 1.0), Ok(Measure::Beyond));
+    assert_eq!(distance(&h, &[50.0, 50.0, 50.0, 2e9], 1.0), Err(6));
     h[0] = f64::NAN;
-    assert_eq!(distance(&h, &mark), Err(1));
+    assert_eq!(distance(&h, &mark, 1.0), Err(1));
+}
+
+/// 16 is last, and beyond is no refusal.
+#[test]
+fn ratios() {
+    let (mark, inf) = ([50.0, 50.0, 50.0, 53.0], f64::INFINITY);
+    for (ratio, expected) in [
+        (0.01, Ok(Measure::Distance(3.0 * 0.01))),
+        (100.0, Ok(Measure::Distance(300.0))),
+        (2.0, Ok(Measure::Distance(6.0))),
+        (step(0.01, -1), Err(16)),
+        (step(100.0, 1), Err(16)),
+        (0.0, Err(16)),
+        (-0.0, Err(16)),
+        (-1.0, Err(16)),
+        (inf, Err(16)),
+        (-inf, Err(16)),
+        (f64::NAN, Err(16)),
+    ] {
+        assert_eq!(distance(&IDENTITY, &mark, ratio), expected, "{ratio:e}");
+        let (mut none, mut behind) = (IDENTITY, IDENTITY);
+        (none[8], behind[8]) = (f64::NAN, -1.0);
+        let wide = [50.0, 50.0, 50.0, 2e9];
+        assert_eq!(distance(&none, &wide, ratio), Err(1));
+        assert_eq!(distance(&none, &mark, ratio), Err(1));
+        assert_eq!(distance(&IDENTITY, &wide, ratio), Err(6));
+        let beyond = expected.map(|_| Measure::Beyond);
+        assert_eq!(distance(&behind, &mark, ratio), beyond);
+    }
+    // The doubles inside both ends.
+    assert!(distance(&IDENTITY, &mark, step(0.01, 1)).is_ok());
+    assert!(distance(&IDENTITY, &mark, step(100.0, -1)).is_ok());
 }

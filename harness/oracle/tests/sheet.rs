@@ -110,13 +110,39 @@ fn last_row(row: [f64; 3]) -> Model {
 
 #[test]
 fn distances() {
-    assert_eq!(distance(&IDENTITY, &MARK), 3.0);
-    assert_eq!(distance(&last_row([0.0, 0.0, -1.0]), &MARK), f64::INFINITY);
+    assert_eq!(distance(&IDENTITY, &MARK, 1.0), 3.0);
+    let behind = last_row([0.0, 0.0, -1.0]);
+    assert_eq!(distance(&behind, &MARK, 1.0), f64::INFINITY);
     // s overflows to infinity: a finite distance. s is a NaN: an infinite one.
     let far = last_row([1e300, 0.0, 1.0]);
-    assert_eq!(distance(&far, &[1e9, 0.0, 3.0, 4.0]), 5.0);
+    assert_eq!(distance(&far, &[1e9, 0.0, 3.0, 4.0], 1.0), 5.0);
     let far = last_row([1e300, -1e300, 1.0]);
-    assert_eq!(distance(&far, &[1e9, 1e9, 3.0, 4.0]), f64::INFINITY);
+    assert_eq!(distance(&far, &[1e9, 1e9, 3.0, 4.0], 1.0), f64::INFINITY);
+}
+
+/// The difference along v alone is multiplied, before squaring.
+#[test]
+fn distances_by_a_ratio() {
+    for ratio in [1.0, 2.0, 0.5, 100.0, -2.0, 0.0] {
+        assert_eq!(distance(&IDENTITY, &MARK, ratio), (3.0 * ratio).abs());
+        // Off along u alone.
+        assert_eq!(distance(&IDENTITY, &[50.0, 50.0, 46.0, 50.0], ratio), 4.0);
+    }
+    assert_eq!(distance(&IDENTITY, &[0.0, 0.0, 4.0, 1.5], 2.0), 5.0);
+    assert_eq!(distance(&IDENTITY, &[0.0, 0.0, 4.0, 6.0], 0.5), 5.0);
+    // Rounded once by itself: 0.1 * 3 is above 0.3.
+    let d = distance(&IDENTITY, &[0.0, 0.0, 0.0, 0.1], 3.0);
+    assert_eq!(d, 0.1 * 3.0);
+    assert!(d > 0.3);
+    // Any ratio at all: beyond stays beyond, and 0 times infinity is a NaN.
+    let behind = last_row([0.0, 0.0, -1.0]);
+    for ratio in [f64::NAN, f64::INFINITY, 0.0] {
+        assert_eq!(measure(&behind, &MARK, ratio), Measure::Beyond);
+    }
+    assert!(distance(&IDENTITY, &MARK, f64::NAN).is_nan());
+    assert_eq!(distance(&IDENTITY, &MARK, f64::NEG_INFINITY), f64::INFINITY);
+    let straight = [50.0, 50.0, 46.0, 50.0];
+    assert!(distance(&IDENTITY, &straight, f64::INFINITY).is_nan());
 }
 
 /// Beyond by s alone: below 0, 0 of either sign, -inf and a NaN.
@@ -138,7 +164,7 @@ fn beyond_the_horizon() {
     ] {
         let h = last_row(row);
         assert_eq!(beyond(&h, &mark), is_beyond, "{row:?}");
-        assert_eq!(measure(&h, &mark) == Measure::Beyond, is_beyond);
+        assert_eq!(measure(&h, &mark, 1.0) == Measure::Beyond, is_beyond);
     }
 }
 
@@ -147,9 +173,10 @@ fn beyond_the_horizon() {
 fn far_and_not_beyond() {
     let mut h = IDENTITY;
     h[2] = 1e200;
-    assert_eq!(measure(&h, &MARK), Measure::Distance(f64::INFINITY));
+    let answer = measure(&h, &MARK, 1.0);
+    assert_eq!(answer, Measure::Distance(f64::INFINITY));
     (h[0], h[1]) = (1e300, -1e300);
-    let answer = measure(&h, &[1e9, 1e9, 3.0, 4.0]);
+    let answer = measure(&h, &[1e9, 1e9, 3.0, 4.0], 1.0);
     assert!(matches!(answer, Measure::Distance(d) if d.is_nan()));
     assert!(!beyond(&h, &[1e9, 1e9, 3.0, 4.0]));
 }

@@ -13,6 +13,7 @@ const GOOD: OptionsNumbers = OptionsNumbers {
     max_iters: 10,
     min_inliers: 4,
     refit_mark: 0,
+    ratio: 1.0,
 };
 
 fn pair(fit_mark: u8, refit_mark: u8, fit: &[f64], refit: &[f64]) -> TrialNumbers {
@@ -27,7 +28,7 @@ fn pair(fit_mark: u8, refit_mark: u8, fit: &[f64], refit: &[f64]) -> TrialNumber
 #[test]
 fn the_worked_run() {
     let bytes = example::sheet().bytes();
-    assert_eq!(options(&GOOD, 32), Ok(bytes.options));
+    assert_eq!(options(&GOOD, 40), Ok(bytes.options));
     let marks = example::SQUARE.as_chunks().0.iter();
     let marks = marks.flat_map(|numbers| mark(numbers, 32).expect("a record"));
     assert_eq!(marks.collect::<Vec<u8>>(), bytes.marks);
@@ -40,14 +41,17 @@ fn the_worked_run() {
 
 #[test]
 fn options_are_refused_in_their_order() {
-    let with = |refit_mark, thresh, confidence, max_iters| OptionsNumbers {
+    let by = |ratio, refit_mark, thresh, confidence, max_iters| OptionsNumbers {
         thresh,
         confidence,
         max_iters,
         refit_mark,
+        ratio,
         ..GOOD
     };
     let nan = f64::NAN;
+    let with = |mark, thresh, confidence, max_iters| by(nan, mark, thresh, confidence, max_iters);
+    let last = |ratio| by(ratio, 1, 5e-324, 5e-324, 100_000);
     for (numbers, number) in [
         (with(2, nan, nan, 0), 1),
         (with(255, nan, nan, 0), 1),
@@ -59,10 +63,15 @@ fn options_are_refused_in_their_order() {
         (with(1, 5e-324, 1.0, 0), 3),
         (with(1, 5e-324, step(1.0, -1), 0), 4),
         (with(1, 5e-324, 5e-324, 100_001), 4),
-        (with(1, 5e-324, 5e-324, 100_000), 9),
+        (last(nan), 16),
+        (last(step(0.01, -1)), 16),
+        (last(step(100.0, 1)), 16),
+        (last(-1.0), 16),
+        (last(0.01), 9),
+        (last(100.0), 9),
     ] {
-        assert_eq!(options(&numbers, 31), Err(number), "{numbers:?}");
-        assert_eq!(options(&numbers, 32).is_ok(), number == 9);
+        assert_eq!(options(&numbers, 39), Err(number), "{numbers:?}");
+        assert_eq!(options(&numbers, 40).is_ok(), number == 9);
     }
 }
 
@@ -120,7 +129,7 @@ fn the_book_reads_them() {
         let numbers = writing_cases::options(random);
         let read = Options::of_record(&numbers.packed());
         let tested = read.and_then(|read| read.tested().map(|()| read.record().to_vec()));
-        assert_eq!(options(&numbers, 32), tested, "{numbers:?}");
+        assert_eq!(options(&numbers, 40), tested, "{numbers:?}");
         let numbers = writing_cases::trial(random);
         if [numbers.fit.len(), numbers.refit.len()] == [9, 9] {
             let read = trial_of_record(&numbers.packed());

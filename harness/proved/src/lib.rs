@@ -62,10 +62,10 @@ mod c {
         };
     }
     of_a_model! {
-        probe_distance_told(u: f64, v: f64) -> u32;
-        probe_distance(u: f64, v: f64) -> f64;
-        probe_residual_told(u: f64, v: f64) -> u32;
-        probe_residual(u: f64, v: f64) -> f64;
+        probe_distance_told(u: f64, v: f64, ratio: f64) -> u32;
+        probe_distance(u: f64, v: f64, ratio: f64) -> f64;
+        probe_residual_told(u: f64, v: f64, ratio: f64) -> u32;
+        probe_residual(u: f64, v: f64, ratio: f64) -> f64;
         probe_projection(place: u32) -> f64;
     }
 }
@@ -171,25 +171,25 @@ pub fn dlt_rows(marks: &[f64], rows: &mut [f64]) -> u32 {
 /// What is told of a mark that is beyond.
 pub const BEYOND: u32 = 256;
 
-/// 0 where there is a distance, [`BEYOND`], or the refusal: 1 for the model or
-/// 6 for the mark.
-pub fn distance_told(h: &[f64; 9], &[x, y, u, v]: &[f64; 4]) -> u32 {
-    with_model!(probe_distance_told, h, x, y, u, v)
+/// 0 where there is a distance, [`BEYOND`], or the refusal: 1 for the model, 6
+/// for the mark or 16 for the row ratio.
+pub fn distance_told(h: &[f64; 9], &[x, y, u, v]: &[f64; 4], ratio: f64) -> u32 {
+    with_model!(probe_distance_told, h, x, y, u, v, ratio)
 }
 
 /// The distance; a NaN where there is none.
-pub fn distance(h: &[f64; 9], &[x, y, u, v]: &[f64; 4]) -> f64 {
-    with_model!(probe_distance, h, x, y, u, v)
+pub fn distance(h: &[f64; 9], &[x, y, u, v]: &[f64; 4], ratio: f64) -> f64 {
+    with_model!(probe_distance, h, x, y, u, v, ratio)
 }
 
 /// 0 or [`BEYOND`], for any numbers: nothing is refused.
-pub fn residual_told(h: &[f64; 9], &[x, y, u, v]: &[f64; 4]) -> u32 {
-    with_model!(probe_residual_told, h, x, y, u, v)
+pub fn residual_told(h: &[f64; 9], &[x, y, u, v]: &[f64; 4], ratio: f64) -> u32 {
+    with_model!(probe_residual_told, h, x, y, u, v, ratio)
 }
 
 /// The distance of any numbers; a NaN where the mark is beyond.
-pub fn residual(h: &[f64; 9], &[x, y, u, v]: &[f64; 4]) -> f64 {
-    with_model!(probe_residual, h, x, y, u, v)
+pub fn residual(h: &[f64; 9], &[x, y, u, v]: &[f64; 4], ratio: f64) -> f64 {
+    with_model!(probe_residual, h, x, y, u, v, ratio)
 }
 
 /// s at place 0, where the model has the point at 1 and 2, a NaN past 2.

@@ -2,7 +2,7 @@
 //! opening, a trial, the winner's indices and the reader of marks from
 //! libprobe_pick.a.
 //!
-//! A state is 24 words, as `oracle::book::State::words` has them.
+//! A state is 25 words, as `oracle::book::State::words` has them.
 
 mod c {
     unsafe extern "C" {
@@ -36,6 +36,7 @@ mod c {
             max_iters: u32,
             min_inliers: u32,
             refit: bool,
+            ratio: f64,
             marks: *const f64,
             marks_len: usize,
             stops: *const u32,
@@ -142,6 +143,7 @@ pub struct Options {
     pub max_iters: u32,
     pub min_inliers: u32,
     pub refit: bool,
+    pub ratio: f64,
 }
 
 /// The same from the type.
@@ -154,6 +156,7 @@ pub fn open_options(options: Options, marks: &[f64], stops: &[u32], state: &mut 
             options.max_iters,
             options.min_inliers,
             options.refit,
+            options.ratio,
             of(marks),
             marks.len(),
             of(stops),
@@ -164,13 +167,14 @@ pub fn open_options(options: Options, marks: &[f64], stops: &[u32], state: &mut 
     }
 }
 
-/// The options with their defaults, to the first five words.
+/// The options with their defaults, to the first six words: the state's first
+/// five, and the ratio.
 pub fn new_options(thresh: f64, state: &mut [u64]) -> u32 {
     // SAFETY: as above.
     unsafe { c::probe_new_options(thresh, lent(state), state.len()) }
 }
 
-/// A trial, in 28 words: the new state's, then which outcome, the refusal's
+/// A trial, in 29 words: the new state's, then which outcome, the refusal's
 /// number or the count, the rms's bits, and how many marks are beyond under the
 /// fit.
 pub fn trial(state: &[u64], record: &[u8], marks: &[f64], stops: &[u32], out: &mut [u64]) -> u32 {

@@ -12,6 +12,7 @@ mod c {
             h6: f64,
             h7: f64,
             h8: f64,
+            ratio: f64,
             marks: *const f64,
             marks_len: usize,
             squares: *mut f64,
@@ -44,6 +45,7 @@ use crate::pick::{lent, of};
 /// to be counted.
 pub fn squared_residuals(
     h: &[f64; 9],
+    ratio: f64,
     marks: &[f64],
     squares: &mut [f64],
     counting: bool,
@@ -63,6 +65,7 @@ pub fn squared_residuals(
             h6,
             h7,
             h8,
+            ratio,
             list,
             len,
             lent(squares),

@@ -10,6 +10,7 @@ mod c {
             max_iters: u32,
             min_inliers: u32,
             refit_mark: u8,
+            ratio: f64,
             out: *mut u8,
             out_len: usize,
         ) -> u32;
@@ -42,6 +43,7 @@ pub fn write_options(
     max_iters: u32,
     min_inliers: u32,
     refit_mark: u8,
+    ratio: f64,
     out: &mut [u8],
 ) -> u32 {
     // SAFETY: the pointer and length are those of a slice, or NULL and 0; it is
@@ -53,6 +55,7 @@ pub fn write_options(
             max_iters,
             min_inliers,
             refit_mark,
+            ratio,
             lent(out),
             out.len(),
         )
