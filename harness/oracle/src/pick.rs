@@ -38,39 +38,27 @@ thread_local! {
     static RATIO: Cell<f64> = const { Cell::new(1.0) };
 }
 
-/// A recorded model, with the run's ratio: `residual` is given nothing else.
-#[derive(Clone)]
-struct Measuring {
-    model: Model,
-    ratio: f64,
-}
-
-fn measuring(model: Model) -> Measuring {
-    let ratio = RATIO.get();
-    Measuring { model, ratio }
-}
-
 /// Fits and refits are read from the recorded trials, in order.
 struct Replayed;
 
 impl Estimator for Replayed {
     type Datum = Mark;
-    type Model = Measuring;
+    type Model = Model;
     const MIN_SAMPLES: usize = 4;
 
-    fn fit(_: &[Mark], _: &[usize]) -> Option<Measuring> {
+    fn fit(_: &[Mark], _: &[usize]) -> Option<Model> {
         let trial = TRIALS.with_borrow_mut(VecDeque::pop_front);
         let trial = trial.expect("a trial for each iteration, max_iters of them");
         REFIT.set(trial.refit);
-        trial.fit.map(measuring)
+        trial.fit
     }
 
-    fn residual(by: &Measuring, mark: &Mark) -> f64 {
-        distance(&by.model, mark, by.ratio)
+    fn residual(model: &Model, mark: &Mark) -> f64 {
+        distance(model, mark, RATIO.get())
     }
 
-    fn refit(_: &[Mark], _: &[usize]) -> Option<Measuring> {
-        REFIT.get().map(measuring)
+    fn refit(_: &[Mark], _: &[usize]) -> Option<Model> {
+        REFIT.get()
     }
 }
 
@@ -82,8 +70,8 @@ pub fn ransac_fit(marks: &[Mark], options: &RansacOptions, ratio: f64, trials: &
     let best = ransac::ransac_fit::<Replayed>(marks, options);
     let left = TRIALS.take().len();
     Run {
-        winner: best.model.map(|by| Winner {
-            model: by.model,
+        winner: best.model.map(|model| Winner {
+            model,
             inliers: best.inliers,
             rms: best.inlier_rms,
             number: best.iters,
