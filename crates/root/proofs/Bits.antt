@@ -177,14 +177,13 @@ record Digits54 (b r : ℕ) : Type 0 where
   long : 2 ^ 53 ≤ r
   short : r < 2 ^ 54
 
-digits54 : (b : ℕ) → 0 < b → Digits54 b (wholeRoot 54 (scaled b * 2 ^ 54))
+digits54 : (b : ℕ) → 0 < b → Digits54 b (wholeRoot (scaled b * 2 ^ 54))
 digits54 b pos =
     let s = scaled-is b pos in
     let l = s .least in
     let u = s .most in
-    let t = whole-is 54 (scaled b * 2 ^ 54) (omega arith) in
-    let r = wholeRoot 54 (scaled b * 2 ^ 54) in
-    record { rem = t .rem; is = t .is; long = root-long (scaled b * 2 ^ 54) r (t .rem) (t .is) (omega arith); short = root-short (scaled b * 2 ^ 54) r (t .rem) (t .is) (omega arith) }
+    let t = whole-is (scaled b * 2 ^ 54) (omega arith) in
+    record { rem = _; is = t; long = root-long _ _ _ t (omega arith); short = root-short _ _ _ t (omega arith) }
 
 rounded : (b r : ℕ) → 0 < b → Digits54 b r → PatternRoot (value b) (height b / 2 * 2 ^ 52 + (r + 1) / 2)
 rounded b r pos t =
@@ -202,7 +201,7 @@ rounded b r pos t =
 
 pub rootBits-root : (b : ℕ) → 0 < b → PatternRoot (value b) (rootBits b)
 unfolding rootBits
-rootBits-root b pos = rounded b (wholeRoot 54 (scaled b * 2 ^ 54)) pos (digits54 b pos)
+rootBits-root b pos = rounded b (wholeRoot (scaled b * 2 ^ 54)) pos (digits54 b pos)
 
 -- ---- of two roots, that of the number that is not smaller is not smaller; so a number has one root
 
@@ -280,10 +279,10 @@ shifted b m e s pos fin p q r =
       height = ap₂ (λ (x y : ℕ). x + 1022 - y) q k;
     }
 
-pub root-within : (b r : ℕ) {m e s : ℕ} → 0 < b → Shifted b m e s → r ≡ wholeRoot 54 (m * 2 ^ s % 2 ^ 64 * 2 ^ 54) → r < 2 ^ 54
-root-within b r pos f h = rw (h ∙ ap (λ (x : ℕ). wholeRoot 54 (x * 2 ^ 54)) (f .up)) (digits54 b pos .short)
+pub root-within : (b r : ℕ) {m e s : ℕ} → 0 < b → Shifted b m e s → r ≡ wholeRoot (m * 2 ^ s % 2 ^ 64 * 2 ^ 54) → r < 2 ^ 54
+root-within b r pos f h = rw (h ∙ ap (λ (x : ℕ). wholeRoot (x * 2 ^ 54)) (f .up)) (digits54 b pos .short)
 
-pub returned : (b m e s r : ℕ) → Shifted b m e s → r ≡ wholeRoot 54 (m * 2 ^ s % 2 ^ 64 * 2 ^ 54) → (e + 1022 - s) / 2 * 2 ^ 52 + (r + 1) / 2 ≡ rootBits b
+pub returned : (b m e s r : ℕ) → Shifted b m e s → r ≡ wholeRoot (m * 2 ^ s % 2 ^ 64 * 2 ^ 54) → (e + 1022 - s) / 2 * 2 ^ 52 + (r + 1) / 2 ≡ rootBits b
 unfolding rootBits
 returned b m e s r f h =
-    ap₂ (λ (x y : ℕ). x / 2 * 2 ^ 52 + (y + 1) / 2) (f .height) (h ∙ ap (λ (x : ℕ). wholeRoot 54 (x * 2 ^ 54)) (f .up))
+    ap₂ (λ (x y : ℕ). x / 2 * 2 ^ 52 + (y + 1) / 2) (f .height) (h ∙ ap (λ (x : ℕ). wholeRoot (x * 2 ^ 54)) (f .up))

@@ -1,15 +1,17 @@
--- The whole root: one digit more keeps `Extracted`, a number has one whole root, and `wholeRoot` is it. Assumes nothing.
-use mathlib.Core.Path.{_≡_, refl, sym, ap, _∙_, subst}
+-- The digits of the whole root. `after-each-digit`, in the words of document 02, order 4: after each digit the remainder is the part of the scaled
+-- number taken so far less the square of the root so far, and at most twice that root. After all 54 the root is the whole root (`whole-is`). Then
+-- the same digits as the loop finds them. Assumes nothing.
+use mathlib.Core.Path.{_≡_, refl, sym, ap, _∙_}
 use mathlib.Core.Logic.{⊎-elim}
-use mathlib.Core.Bool.{cond}
 use Prim.Native.Nat.{ℕ, zero, suc, _+_, _-_, _*_, _/_, _%_, _^_, _≤_, _<_}
-use native.Mathlib.Nat.{le-antisymm, lt-of-lt-of-le, mod-lt, mul-add, add-mul, mul-one, one-mul, mul-assoc, mul-mul-mul-comm, mul-le-mul, pow-suc}
+use native.Mathlib.Nat.{lt-of-lt-of-le, lt-of-mul-lt-mul-right, mul-lt-mul-of-pos-right, mod-lt, mul-add, add-mul, mul-one, one-mul, mul-assoc, mul-comm, mul-right-comm, mul-mul-mul-comm, mul-le-mul, mul-le-mul-right, one-le-pow, pow-suc, div-div-eq-div-mul, div-eq-of-lt, div-one}
 use native.Mathlib.Omega.{arith}
 use borrow.Author.Tests.{le-leb, lt-leb}
-use lib.Dec.{leb}
-use lib.Pow.{pow-pos, pow-mono}
+use lib.Dec.{leb, lit<}
+use lib.Pow.{pow-pos, pow-add}
+use lib.Arith.{mod-mul}
 use Rattle.rule.proofs.Tests.{le-or-gt}
-use Rattle.root.specs.Digits.{Extracted, AfterDigits, Ready, NextDigit, Chosen, wholeRoot, taken, coming}
+use Rattle.root.specs.Digits.{Extracted, taken, Partial, oneMore, afterDigits, wholeRoot, Holds, Ready, NextDigit, Chosen}
 
 -- ---- squares
 
@@ -23,206 +25,268 @@ square-next r =
 pub square-double : (r : ℕ) → r * 2 * (r * 2) ≡ 4 * (r * r)
 square-double r = let e : r * 2 * (r * 2) ≡ r * r * 4 = mul-mul-mul-comm r 2 r 2 in omega arith
 
--- ---- one digit more. The digit is 1 where 4 * root + 1 is still there
+-- ---- one digit more
 
-pub digit-one : {part root rem : ℕ} (q : ℕ) → q ≤ 3 → Extracted part root rem → root * 4 + 1 ≤ rem * 4 + q
-    → Extracted (part * 4 + q) (root * 2 + 1) (rem * 4 + q - (root * 4 + 1))
-digit-one {part} {root} {rem} q small e h =
-    let s : (root * 2 + 1) * (root * 2 + 1) ≡ root * 2 * (root * 2) + (2 * (root * 2) + 1) = square-next (root * 2) in
-    let d : root * 2 * (root * 2) ≡ 4 * (root * root) = square-double root in
-    record { square = omega arith; small = omega arith }
+-- The digit is 1, or it is 0.
+pub record One (p : Partial) (two : ℕ) : Type 0 where
+  pub there : 4 * p .root + 1 ≤ 4 * p .rem + two
+  pub root-is : oneMore p two .root ≡ 2 * p .root + 1
+  pub rem-is : oneMore p two .rem ≡ 4 * p .rem + two - (4 * p .root + 1)
 
-pub digit-none : {part root rem : ℕ} (q : ℕ) → Extracted part root rem → rem * 4 + q < root * 4 + 1
-    → Extracted (part * 4 + q) (root * 2) (rem * 4 + q)
-digit-none {part} {root} {rem} q e h =
-    let d : root * 2 * (root * 2) ≡ 4 * (root * root) = square-double root in
-    record { square = omega arith; small = omega arith }
+pub record None (p : Partial) (two : ℕ) : Type 0 where
+  pub gone : 4 * p .rem + two < 4 * p .root + 1
+  pub root-is : oneMore p two .root ≡ 2 * p .root
+  pub rem-is : oneMore p two .rem ≡ 4 * p .rem + two
 
--- ---- a number has one whole root
+pub digit-one : (p : Partial) (two : ℕ) → 4 * p .root + 1 ≤ 4 * p .rem + two → One p two
+unfolding oneMore
+digit-one p two h = let e = le-leb (4 * p .root + 1) (4 * p .rem + two) h in record { there = h; root-is = rw e refl; rem-is = rw e refl }
 
-root-le : {n r s rem rem′ : ℕ} → Extracted n r rem → Extracted n s rem′ → r ≤ s
-root-le {n} {r} {s} {rem} {rem′} e f = ⊎-elim (λ h. h) (λ (h : s < r).
-    absurd (
-    let g : (s + 1) * (s + 1) ≤ r * r = mul-le-mul {n₁ = s + 1} {m₁ = s + 1} (omega arith) (omega arith) in
-    let q : (s + 1) * (s + 1) ≡ s * s + (2 * s + 1) = square-next s in
-    omega arith))
-    (le-or-gt r s)
+pub digit-none : (p : Partial) (two : ℕ) → 4 * p .rem + two < 4 * p .root + 1 → None p two
+unfolding oneMore
+digit-none p two h = let e = lt-leb (4 * p .root + 1) (4 * p .rem + two) h in record { gone = h; root-is = rw e (omega arith); rem-is = rw e (omega arith) }
 
-pub extracted-unique : {n r s rem rem′ : ℕ} → Extracted n r rem → Extracted n s rem′ → r ≡ s
-extracted-unique e f = le-antisymm (root-le e f) (root-le f e)
-
--- ---- `wholeRoot` is the whole root
-
-pub record Whole (n r : ℕ) : Type 0 where
-  pub rem : ℕ
-  pub is : Extracted n r rem
-
-whole-step : (n r : ℕ) → Whole (n / 4) r → Whole n (cond (leb ((2 * r + 1) * (2 * r + 1)) n) (2 * r + 1) (2 * r))
-whole-step n r w = ⊎-elim one none (le-or-gt ((2 * r + 1) * (2 * r + 1)) n)
+extracted-more : (part part′ two : ℕ) (p : Partial) → part′ ≡ part * 4 + two → two ≤ 3 → Extracted part (p .root) (p .rem) → Extracted part′ (oneMore p two .root) (oneMore p two .rem)
+extracted-more part part′ two p next small e = ⊎-elim one none (le-or-gt (4 * p .root + 1) (4 * p .rem + two))
   where
-    p : n ≡ n / 4 * 4 + n % 4
-    p = omega arith
+    d : p .root * 2 * (p .root * 2) ≡ 4 * (p .root * p .root)
+    d = square-double (p .root)
 
-    both : (2 * r + 1) * (2 * r + 1) ≡ 4 * (r * r) + (4 * r + 1)
-    both =
-        let a : (2 * r + 1) * (2 * r + 1) ≡ 2 * r * (2 * r) + (2 * (2 * r) + 1) = square-next (2 * r) in
-        let b : 2 * r * (2 * r) ≡ 4 * (r * r) = mul-mul-mul-comm 2 r 2 r in
-        omega arith
-
-    one : (2 * r + 1) * (2 * r + 1) ≤ n → Whole n (cond (leb ((2 * r + 1) * (2 * r + 1)) n) (2 * r + 1) (2 * r))
+    one : 4 * p .root + 1 ≤ 4 * p .rem + two → Extracted part′ (oneMore p two .root) (oneMore p two .rem)
     one h =
-        let sq = w .is .square in
-        let x : r * 2 + 1 ≡ 2 * r + 1 = omega arith in
-        let t : r * 4 + 1 ≤ w .rem * 4 + n % 4 = omega arith in
-        let e : Extracted (n / 4 * 4 + n % 4) (r * 2 + 1) (w .rem * 4 + n % 4 - (r * 4 + 1)) = digit-one (n % 4) (omega arith) (w .is) t in
-        rw (le-leb ((2 * r + 1) * (2 * r + 1)) n h) (record { rem = w .rem * 4 + n % 4 - (r * 4 + 1); is = rw (← x) (subst (λ (m : ℕ). Extracted m (r * 2 + 1) (w .rem * 4 + n % 4 - (r * 4 + 1))) (sym p) e) })
+        let o = digit-one p two h in
+        let sq = e .square in
+        let sm = e .small in
+        let s : (p .root * 2 + 1) * (p .root * 2 + 1) ≡ p .root * 2 * (p .root * 2) + (2 * (p .root * 2) + 1) = square-next (p .root * 2) in
+        let x : 2 * p .root + 1 ≡ p .root * 2 + 1 = omega arith in
+        rw (o .root-is, o .rem-is, x) (record { square = omega arith; small = omega arith })
 
-    none : n < (2 * r + 1) * (2 * r + 1) → Whole n (cond (leb ((2 * r + 1) * (2 * r + 1)) n) (2 * r + 1) (2 * r))
+    none : 4 * p .rem + two < 4 * p .root + 1 → Extracted part′ (oneMore p two .root) (oneMore p two .rem)
     none h =
-        let sq = w .is .square in
-        let x : r * 2 ≡ 2 * r = omega arith in
-        let t : w .rem * 4 + n % 4 < r * 4 + 1 = omega arith in
-        let e : Extracted (n / 4 * 4 + n % 4) (r * 2) (w .rem * 4 + n % 4) = digit-none (n % 4) (w .is) t in
-        rw (lt-leb ((2 * r + 1) * (2 * r + 1)) n h) (record { rem = w .rem * 4 + n % 4; is = rw (← x) (subst (λ (m : ℕ). Extracted m (r * 2) (w .rem * 4 + n % 4)) (sym p) e) })
+        let o = digit-none p two h in
+        let sq = e .square in
+        let x : 2 * p .root ≡ p .root * 2 = omega arith in
+        rw (o .root-is, o .rem-is, x) (record { square = omega arith; small = omega arith })
 
-pub whole-is : (k n : ℕ) → n < 4 ^ k → Whole n (wholeRoot k n)
-unfolding wholeRoot
-whole-is zero n h = record { rem = 0; is = record { square = omega arith; small = omega arith } }
-whole-is (suc k) n h =
-    let e : 4 ^ suc k ≡ 4 ^ k * 4 = pow-suc 4 k in
-    whole-step n (wholeRoot k (n / 4)) (whole-is k (n / 4) (omega arith))
+-- ---- after each digit
 
-pub whole-of : (k : ℕ) {n r rem : ℕ} → n < 4 ^ k → Extracted n r rem → r ≡ wholeRoot k n
-whole-of k {n} h e = extracted-unique e (whole-is k n h .is)
-
--- ---- the part taken, and the digits to come
-
-pub taken-next : (n i : ℕ) → taken n (suc i) ≡ taken n i * 4 + coming n i / 2 ^ 52
-unfolding taken coming
-taken-next n i = rw (pow-suc 4 i, ← mul-assoc n (4 ^ i) 4) (part (n * 4 ^ i))
-  where
-    part : (x : ℕ) → x * 4 / 2 ^ 54 ≡ x / 2 ^ 54 * 4 + x % 2 ^ 54 / 2 ^ 52
-    part x = omega arith
-
-pub coming-next : (n i : ℕ) → coming n (suc i) ≡ coming n i % 2 ^ 52 * 4
-unfolding coming
-coming-next n i = rw (pow-suc 4 i, ← mul-assoc n (4 ^ i) 4) (part (n * 4 ^ i))
-  where
-    part : (x : ℕ) → x * 4 % 2 ^ 54 ≡ x % 2 ^ 54 % 2 ^ 52 * 4
-    part x = omega arith
-
-pub taken-all : (n : ℕ) → taken n 54 ≡ n * 2 ^ 54
+taken-none : (scaled : ℕ) → scaled < 4 ^ 54 → taken scaled 0 ≡ 0
 unfolding taken
-taken-all n = omega arith
+taken-none scaled h = div-eq-of-lt h
 
--- ---- one digit of the loop
+taken-next : (scaled i : ℕ) → i < 54 → taken scaled (suc i) ≡ taken scaled i * 4 + taken scaled (suc i) % 4
+unfolding taken
+taken-next scaled i h =
+    let k = 54 - suc i in
+    let e : 54 - i ≡ suc k = omega arith in
+    let x : scaled / 4 ^ (54 - i) ≡ scaled / 4 ^ k / 4 = rw (e, pow-suc 4 k) (sym (div-div-eq-div-mul scaled (4 ^ k) 4)) in
+    omega arith
 
-pub chosen-le : {quad here v r : ℕ} → Chosen quad here v r → r ≤ v
-chosen-le {quad} {here} {v} {r} c = ⊎-elim (λ h. let e = c .no h in omega arith) (λ h. let e = c .yes h in omega arith) (le-or-gt here quad)
+taken-all : (scaled : ℕ) → taken scaled 54 ≡ scaled
+unfolding taken
+taken-all scaled = div-one scaled
 
-pub chosen-cut : {quad here r : ℕ} → Chosen quad here (quad * 4 + 4) r → r ≤ here * 4
-chosen-cut {quad} {here} {r} c = ⊎-elim (λ h. let e = c .no h in omega arith) (λ h. let e = c .yes h in omega arith) (le-or-gt here quad)
+pub after-each-digit : (scaled i : ℕ) → scaled < 4 ^ 54 → i ≤ 54 → Extracted (taken scaled i) (afterDigits scaled i .root) (afterDigits scaled i .rem)
+unfolding afterDigits
+after-each-digit scaled zero h l = record { square = taken-none scaled h; small = omega arith }
+after-each-digit scaled (suc i) h l =
+    extracted-more (taken scaled i) (taken scaled (suc i)) (taken scaled (suc i) % 4) (afterDigits scaled i) (taken-next scaled i (omega arith)) (omega arith) (after-each-digit scaled i h (omega arith))
 
-pub digit-step : {quad here left more cut : ℕ} → Chosen quad here 4 more → Chosen quad here (quad * 4 + 4) cut
-    → NextDigit quad here left (quad * 2 + more) (here * 4 + left / 2 ^ 52 - cut) (left % 2 ^ 52 * 4)
-digit-step {quad} {here} {left} {more} {cut} d k = record {
-  one = λ h. let a = d .yes h in let b = k .yes h in (omega arith, omega arith);
-  none = λ h. let a = d .no h in let b = k .no h in (omega arith, omega arith);
-  window = refl;
-}
+pub whole-is : (scaled : ℕ) → scaled < 4 ^ 54 → Extracted scaled (wholeRoot scaled) (afterDigits scaled 54 .rem)
+unfolding wholeRoot
+whole-is scaled h = rw (taken-all scaled) at (after-each-digit scaled 54 h (omega arith))
+
+-- ---- one turn of the loop, for any unit. With w for a quarter of it, what is left times w is on the scale of w * w, where two more digits are taken
+
+module _ (w two tail : ℕ) (p : Partial) (root left unit root′ left′ unit′ : ℕ) (short : tail < w * w) (quarters : unit ≡ w * 4)
+    (in-units : root ≡ p .root * unit) (remains : left * (w * 2) ≡ 2 * (p .rem * (w * w * 4) + (two * (w * w) + tail))) (d : NextDigit root left unit root′ left′ unit′) where
+  times : (a b : ℕ) → (4 * a + b) * (w * w) ≡ 4 * (a * (w * w)) + b * (w * w)
+  times a b = add-mul (4 * a) b (w * w) ∙ ap (λ (x : ℕ). x + b * (w * w)) (mul-assoc 4 a (w * w))
+
+  left-is : left * w ≡ (4 * p .rem + two) * (w * w) + tail
+  left-is =
+      let a : left * (w * 2) ≡ left * w * 2 = sym (mul-assoc left w 2) in
+      let b : p .rem * (w * w * 4) ≡ p .rem * (w * w) * 4 = sym (mul-assoc (p .rem) (w * w) 4) in
+      let t = times (p .rem) two in
+      omega arith
+
+  root-is : root ≡ p .root * w * 4
+  root-is = in-units ∙ ap (λ (x : ℕ). p .root * x) quarters ∙ sym (mul-assoc (p .root) w 4)
+
+  -- the trial is 4 * root + 1, in place
+  trial : (root + unit / 4) * w ≡ (4 * p .root + 1) * (w * w)
+  trial =
+      let q : root + unit / 4 ≡ 4 * (p .root * w) + w = let r = root-is in omega arith in
+      let e : (4 * (p .root * w) + w) * w ≡ 4 * (p .root * w) * w + w * w = add-mul (4 * (p .root * w)) w w in
+      let f : 4 * (p .root * w) * w ≡ 4 * (p .root * w * w) = mul-assoc 4 (p .root * w) w in
+      let g : p .root * w * w ≡ p .root * (w * w) = mul-assoc (p .root) w w in
+      let t = times (p .root) 1 in
+      let o : 1 * (w * w) ≡ w * w = one-mul (w * w) in
+      ap (λ (x : ℕ). x * w) q ∙ (omega arith)
+
+  -- and it is tried as the rule tries it
+  there : root + unit / 4 ≤ left → 4 * p .root + 1 ≤ 4 * p .rem + two
+  there h =
+      let l : (root + unit / 4) * w ≤ left * w = mul-le-mul-right w h in
+      let a = trial in
+      let b = left-is in
+      let x = add-mul (4 * p .root) 1 (w * w) in
+      let o : 1 * (w * w) ≡ w * w = one-mul (w * w) in
+      let c : 4 * p .root * (w * w) < (4 * p .rem + two) * (w * w) = omega arith in
+      let e : 4 * p .root < 4 * p .rem + two = lt-of-mul-lt-mul-right (w * w) c in
+      omega arith
+
+  gone : 0 < w → left < root + unit / 4 → 4 * p .rem + two < 4 * p .root + 1
+  gone pos h =
+      let l : left * w < (root + unit / 4) * w = mul-lt-mul-of-pos-right h pos in
+      let a = trial in
+      let b = left-is in
+      lt-of-mul-lt-mul-right (w * w) (omega arith)
+
+  record Turned : Type 0 where
+    root-next : root′ ≡ oneMore p two .root * (w * 2)
+    left-next : left′ * w ≡ 2 * (oneMore p two .rem * (w * w) + tail)
+    unit-next : unit′ ≡ w * 2
+
+  turned-one : root + unit / 4 ≤ left → Turned
+  turned-one h =
+      let o = digit-one p two (there h) in
+      let n = d .one h in
+      let g = there h in
+      let r = root-is in
+      let u = d .halved in
+      let a : (2 * p .root + 1) * (w * 2) ≡ 2 * p .root * (w * 2) + 1 * (w * 2) = add-mul (2 * p .root) 1 (w * 2) in
+      let b : 2 * p .root * (w * 2) ≡ 2 * (p .root * w) * 2 = sym (mul-assoc (2 * p .root) w 2) ∙ ap (λ (x : ℕ). x * 2) (mul-assoc 2 (p .root) w) in
+      let x : (left′ + 2 * (root + unit / 4)) * w ≡ left′ * w + 2 * ((root + unit / 4) * w) = add-mul left′ (2 * (root + unit / 4)) w ∙ ap (λ (y : ℕ). left′ * w + y) (mul-assoc 2 (root + unit / 4) w) in
+      let y : (left′ + 2 * (root + unit / 4)) * w ≡ 2 * (left * w) = ap (λ (z : ℕ). z * w) (n .1) ∙ mul-assoc 2 left w in
+      let m = 4 * p .rem + two - (4 * p .root + 1) in
+      let s : m + (4 * p .root + 1) ≡ 4 * p .rem + two = omega arith in
+      let z : m * (w * w) + (4 * p .root + 1) * (w * w) ≡ (4 * p .rem + two) * (w * w) = sym (add-mul m (4 * p .root + 1) (w * w)) ∙ ap (λ (k : ℕ). k * (w * w)) s in
+      let t = trial in
+      let l = left-is in
+      let q = n .0 in
+      record { root-next = rw (o .root-is) (omega arith); left-next = rw (o .rem-is) (omega arith); unit-next = omega arith }
+
+  turned-none : 0 < w → left < root + unit / 4 → Turned
+  turned-none pos h =
+      let o = digit-none p two (gone pos h) in
+      let n = d .none h in
+      let r = root-is in
+      let u = d .halved in
+      let b : 2 * p .root * (w * 2) ≡ 2 * (p .root * w) * 2 = sym (mul-assoc (2 * p .root) w 2) ∙ ap (λ (x : ℕ). x * 2) (mul-assoc 2 (p .root) w) in
+      let y : left′ * w ≡ 2 * (left * w) = ap (λ (z : ℕ). z * w) (n .1) ∙ mul-assoc 2 left w in
+      let l = left-is in
+      let q = n .0 in
+      record { root-next = rw (o .root-is) (omega arith); left-next = rw (o .rem-is) (omega arith); unit-next = omega arith }
+
+  turned : 0 < w → Turned
+  turned pos = ⊎-elim turned-one (turned-none pos) (le-or-gt (root + unit / 4) left)
 
 -- ---- the loop
 
-pub begun : (n : ℕ) → n < 2 ^ 54 → AfterDigits n 0 0 (n / 2 ^ 52) (n % 2 ^ 52 * 4)
-unfolding taken coming
-begun n h = record {
-  root = 0;
-  rem = 0;
-  extracted = record { square = omega arith; small = omega arith };
-  short = omega arith;
-  fourfold = refl;
-  brought = omega arith;
-  window = omega arith;
+four-power : (k : ℕ) → 4 ^ k ≡ 2 ^ k * 2 ^ k
+four-power zero = refl
+four-power (suc k) = pow-suc 4 k ∙ ap (λ (x : ℕ). x * 4) (four-power k) ∙ sym (mul-mul-mul-comm (2 ^ k) 2 (2 ^ k) 2) ∙ ap (λ (x : ℕ). x * x) (sym (pow-suc 2 k))
+
+four-pos : (k : ℕ) → 0 < 4 ^ k
+four-pos k = one-le-pow k 4 (lit< tt)
+
+pub begun : (n : ℕ) → n < 2 ^ 54 → Holds (n * 2 ^ 54) 0 0 (n * 2) (2 ^ 55)
+unfolding afterDigits
+begun n h = record { in-units = refl; remains = omega arith; halved = refl }
+
+-- the digits still to come are two and those after them
+coming-next : (scaled k : ℕ) → scaled % 4 ^ suc k ≡ scaled / 4 ^ k % 4 * 4 ^ k + scaled % 4 ^ k
+coming-next scaled k = rw (pow-suc 4 k, mul-comm (4 ^ k) 4) (mod-mul scaled (lit< tt) (four-pos k))
+
+pub holds-next : (scaled i root left unit root′ left′ unit′ : ℕ) → i < 54 → Holds scaled i root left unit → NextDigit root left unit root′ left′ unit′
+    → Holds scaled (suc i) root′ left′ unit′
+unfolding afterDigits taken
+holds-next scaled i root left unit root′ left′ unit′ h a d =
+    let k = 54 - suc i in
+    let p = afterDigits scaled i in
+    let x : 54 - i ≡ suc k = omega arith in
+    let y : 55 - i ≡ suc (suc k) = omega arith in
+    let z : 55 - suc i ≡ suc k = omega arith in
+    let u : unit ≡ 2 ^ k * 4 = a .halved ∙ ap (λ (j : ℕ). 2 ^ j) y ∙ (let e = pow-suc 2 (suc k) in let f = pow-suc 2 k in omega arith) in
+    let l : left * (2 ^ k * 2) ≡ 2 * (p .rem * (2 ^ k * 2 ^ k * 4) + (scaled / 4 ^ k % 4 * (2 ^ k * 2 ^ k) + scaled % 4 ^ k))
+    = rw (← four-power k, ← pow-suc 2 k, ← pow-suc 4 k, ← coming-next scaled k, ← x) (a .remains) in
+    let s : scaled % 4 ^ k < 2 ^ k * 2 ^ k = rw (← four-power k) (mod-lt scaled (four-pos k)) in
+    let t = turned (2 ^ k) (scaled / 4 ^ k % 4) (scaled % 4 ^ k) p root left unit root′ left′ unit′ s u (a .in-units) l d (pow-pos k) in
+    record {
+      in-units = t .root-next ∙ ap (λ (j : ℕ). oneMore p (scaled / 4 ^ k % 4) .root * j) (sym (t .unit-next));
+      remains = t .left-next ∙ ap (λ (j : ℕ). 2 * (oneMore p (scaled / 4 ^ k % 4) .rem * j + scaled % 4 ^ k)) (sym (four-power k));
+      halved = rw (z, pow-suc 2 k) (t .unit-next);
+    }
+
+pub ended : (scaled root left unit : ℕ) → Holds scaled 54 root left unit → root / 2 ≡ wholeRoot scaled
+unfolding wholeRoot
+ended scaled root left unit a = let r : root ≡ afterDigits scaled 54 .root * 2 = a .in-units ∙ ap (λ (j : ℕ). afterDigits scaled 54 .root * j) (a .halved) in omega arith
+
+-- ---- nothing overflows
+
+one-or-none : (p : Partial) (two : ℕ) → oneMore p two .root ≤ 2 * p .root + 1
+one-or-none p two = ⊎-elim (λ h. let o = digit-one p two h .root-is in omega arith) (λ h. let o = digit-none p two h .root-is in omega arith) (le-or-gt (4 * p .root + 1) (4 * p .rem + two))
+
+root-short : (scaled i : ℕ) → afterDigits scaled i .root < 2 ^ i
+unfolding afterDigits
+root-short scaled zero = omega arith
+root-short scaled (suc i) =
+    let h = root-short scaled i in
+    let o = one-or-none (afterDigits scaled i) (taken scaled (suc i) % 4) in
+    let e = pow-suc 2 i in
+    omega arith
+
+-- the root in units, and a unit beyond it
+root-room : (scaled i root left unit : ℕ) → i ≤ 54 → Holds scaled i root left unit → root + unit ≤ 2 ^ 55
+root-room scaled i root left unit h a =
+    let r = afterDigits scaled i .root in
+    let l : (r + 1) * unit ≤ 2 ^ i * unit = mul-le-mul-right unit (let s = root-short scaled i in omega arith) in
+    let e : (r + 1) * unit ≡ r * unit + 1 * unit = add-mul r 1 unit in
+    let o : 1 * unit ≡ unit = one-mul unit in
+    let q : 2 ^ i * unit ≡ 2 ^ 55 = ap (λ (x : ℕ). 2 ^ i * x) (a .halved) ∙ sym (pow-add 2 i (55 - i)) ∙ ap (λ (j : ℕ). 2 ^ j) (let z : i + (55 - i) ≡ 55 = omega arith in z) in
+    let u = a .in-units in
+    omega arith
+
+-- what is left is below 2 * root + 1 units, doubled: the remainder is at most twice the root
+left-room : (scaled i root left unit : ℕ) → scaled < 4 ^ 54 → i ≤ 54 → Holds scaled i root left unit → left < 2 * root + unit
+left-room scaled i root left unit s h a =
+    let k = 54 - i in
+    let p = afterDigits scaled i in
+    let w = 2 ^ k in
+    let y : 55 - i ≡ suc k = omega arith in
+    let u : unit ≡ w * 2 = a .halved ∙ ap (λ (j : ℕ). 2 ^ j) y ∙ pow-suc 2 k in
+    let l : left * w ≡ 2 * (p .rem * (w * w) + scaled % 4 ^ k) = rw (← four-power k) (a .remains) in
+    let t : scaled % 4 ^ k < w * w = rw (← four-power k) (mod-lt scaled (four-pos k)) in
+    let m : p .rem * (w * w) ≤ 2 * p .root * (w * w) = mul-le-mul-right (w * w) (after-each-digit scaled i s h .small) in
+    let r : root ≡ p .root * w * 2 = a .in-units ∙ ap (λ (j : ℕ). p .root * j) u ∙ sym (mul-assoc (p .root) w 2) in
+    let e : (4 * (p .root * w) + w * 2) * w ≡ 4 * (p .root * w) * w + w * 2 * w = add-mul (4 * (p .root * w)) (w * 2) w in
+    let f : 4 * (p .root * w) * w ≡ 4 * (p .root * (w * w)) = mul-assoc 4 (p .root * w) w ∙ ap (λ (x : ℕ). 4 * x) (mul-assoc (p .root) w w) in
+    let g : w * 2 * w ≡ w * w * 2 = mul-right-comm w 2 w in
+    let b : 2 * p .root * (w * w) ≡ 2 * (p .root * (w * w)) = mul-assoc 2 (p .root) (w * w) in
+    let c : left < 4 * (p .root * w) + w * 2 = lt-of-mul-lt-mul-right w (omega arith) in
+    omega arith
+
+-- before each of the 54 digits the state is within what `next_digit` asks
+pub ready : (scaled i root left unit : ℕ) → scaled < 4 ^ 54 → i < 54 → Holds scaled i root left unit → Ready root left unit
+ready scaled i root left unit s h a =
+    let k = 53 - i in
+    let y : 55 - i ≡ suc (suc k) = omega arith in
+    let u : unit ≡ 2 ^ k * 4 = a .halved ∙ ap (λ (j : ℕ). 2 ^ j) y ∙ (let e = pow-suc 2 (suc k) in let f = pow-suc 2 k in omega arith) in
+    let r = root-room scaled i root left unit (omega arith) a in
+    let l = left-room scaled i root left unit s (omega arith) a in
+    let p = pow-pos k in
+    record { root-short = omega arith; left-short = omega arith; unit-short = omega arith; quarters = omega arith }
+
+-- ---- one digit of the loop
+
+pub chosen-cut : (root left unit r : ℕ) → unit % 4 ≡ 0 → Chosen left (root + unit / 2 / 2) 0 (root + (root + unit / 2)) r → r ≤ left * 2
+chosen-cut root left unit r q c = ⊎-elim (λ h. let e = c .yes h in omega arith) (λ h. let e = c .no h in omega arith) (le-or-gt (root + unit / 2 / 2) left)
+
+pub digit-step : {root left unit grown cut : ℕ} → unit % 4 ≡ 0 → Chosen left (root + unit / 2 / 2) root (root + unit / 2) grown
+    → Chosen left (root + unit / 2 / 2) 0 (root + (root + unit / 2)) cut → NextDigit root left unit grown (left * 2 - cut) (unit / 2)
+digit-step {root} {left} {unit} {grown} {cut} q g c = record {
+  one = λ h. let a = g .yes (omega arith) in let b = c .yes (omega arith) in (a, omega arith);
+  none = λ h. let a = g .no (omega arith) in let b = c .no (omega arith) in (a, omega arith);
+  halved = refl;
 }
-
-module _ (n i quad here left quad′ here′ left′ : ℕ) (a : AfterDigits n i quad here left) (d : NextDigit quad here left quad′ here′ left′) where
-  next-window : left′ ≡ coming n (suc (suc i))
-  next-window = d .window ∙ ap (λ (x : ℕ). x % 2 ^ 52 * 4) (a .window) ∙ sym (coming-next n (suc i))
-
-  -- the two digits brought down
-  pair : coming n i / 2 ^ 52 ≤ 3
-  unfolding coming
-  pair = let l = mod-lt (n * 4 ^ i) (pow-pos 54) in omega arith
-
-  next-one : quad < here → AfterDigits n (suc i) quad′ here′ left′
-  next-one h =
-      let e = d .one h in
-      let w = a .window in
-      let f = a .fourfold in
-      let b = a .brought in
-      let s = a .short in
-      let p = pow-suc 2 i in
-      let x : here′ ≡ here * 4 + left / 2 ^ 52 - (quad * 4 + 4) = e .1 in
-      let t : a .root * 4 + 1 ≤ a .rem * 4 + coming n i / 2 ^ 52 = omega arith in
-      record {
-        root = a .root * 2 + 1;
-        rem = a .rem * 4 + coming n i / 2 ^ 52 - (a .root * 4 + 1);
-        extracted = rw (taken-next n i) (digit-one (coming n i / 2 ^ 52) pair (a .extracted) t);
-        short = omega arith;
-        fourfold = let y = e .0 in omega arith;
-        brought = rw (← w) (omega arith);
-        window = next-window;
-      }
-
-  next-none : here ≤ quad → AfterDigits n (suc i) quad′ here′ left′
-  next-none h =
-      let e = d .none h in
-      let w = a .window in
-      let f = a .fourfold in
-      let b = a .brought in
-      let s = a .short in
-      let p = pow-suc 2 i in
-      let x : here′ ≡ here * 4 + left / 2 ^ 52 = e .1 in
-      record {
-        root = a .root * 2;
-        rem = a .rem * 4 + coming n i / 2 ^ 52;
-        extracted = rw (taken-next n i) (digit-none (coming n i / 2 ^ 52) (a .extracted) (omega arith));
-        short = omega arith;
-        fourfold = let y = e .0 in omega arith;
-        brought = rw (← w) (omega arith);
-        window = next-window;
-      }
-
-  pub after-next : AfterDigits n (suc i) quad′ here′ left′
-  after-next = ⊎-elim next-none next-one (le-or-gt here quad)
-
--- before the last digit the state is within what `next_digit` asks
-pub ready : (n i quad here left : ℕ) → i < 54 → AfterDigits n i quad here left → Ready quad here left
-unfolding coming
-ready n i quad here left h a =
-    let s : a .root < 2 ^ 53 = lt-of-lt-of-le (a .short) (pow-mono {j = 53} (omega arith)) in
-    let f = a .fourfold in
-    let b = a .brought in
-    let m = a .extracted .small in
-    let l = mod-lt (n * 4 ^ i) (pow-pos 54) in
-    record { quad-short = omega arith; here-short = omega arith; left-short = rw (a .window) (mod-lt (n * 4 ^ suc i) (pow-pos 54)) }
-
--- after half of the digits none of n's own is left
-pub window-empty : (n quad here left : ℕ) → AfterDigits n 27 quad here left → AfterDigits n 27 quad here 0
-unfolding coming
-window-empty n quad here left a = record {
-  root = a .root;
-  rem = a .rem;
-  extracted = a .extracted;
-  short = a .short;
-  fourfold = a .fourfold;
-  brought = a .brought;
-  window = omega arith;
-}
-
-pub ended : (n quad here left : ℕ) → n < 2 ^ 54 → AfterDigits n 54 quad here left → quad / 4 ≡ wholeRoot 54 (n * 2 ^ 54)
-ended n quad here left h a =
-    let b : Extracted (n * 2 ^ 54) (a .root) (a .rem) = rw (taken-all n) at (a .extracted) in
-    let f = a .fourfold in
-    let e : quad / 4 ≡ a .root = omega arith in
-    e ∙ whole-of 54 (omega arith) b

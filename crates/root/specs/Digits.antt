@@ -1,4 +1,9 @@
--- The whole square root, one binary digit at a time: what the digit loop holds after each digit, and the number it ends with.
+-- The whole square root, one binary digit at a time (document 02, order 4): the rule of a digit, what is so after each, and what the digit loop holds.
+--
+-- 'The root is to come digit by digit, multiplying in that loop by constants alone and carrying a remainder. After each digit the remainder is shown
+-- to be the part of the scaled number taken so far less the square of the root so far, and at most twice that root.' The digits are those of
+-- `afterDigits`; what is shown is `Extracted`, by the theorem `after-each-digit` in proofs/Whole.antt; and that the loop carries just these roots and
+-- remainders is `Holds`, the promise of `after_digits`, for each number of digits.
 use mathlib.Core.Path.{_≡_}
 use mathlib.Core.Bool.{cond}
 use Prim.Native.Nat.{ℕ, zero, suc, _+_, _*_, _/_, _-_, _%_, _^_, _≤_, _<_}
@@ -9,44 +14,53 @@ pub record Extracted (part root rem : ℕ) : Type 0 where
   pub square : part ≡ root * root + rem
   pub small : rem ≤ 2 * root
 
--- The part that is taken after i digits of the root: the leading 2 * i of the 108 binary digits of n * 2 ^ 54, for an n of 54 digits.
+-- The part of a scaled number of 108 binary digits that is taken after i of the 54 digits of its root: its leading 2 * i digits.
 unfoldable pub taken : ℕ → ℕ → ℕ
-taken n i = n * 4 ^ i / 2 ^ 54
+taken scaled i = scaled / 4 ^ (54 - i)
 
--- the digits of n that are still to come, as a window of 54
-unfoldable pub coming : ℕ → ℕ → ℕ
-coming n i = n * 4 ^ i % 2 ^ 54
-
--- What the digit loop holds after i digits: four times the root, what is left with the next two digits brought down to it, and the digits after those.
-pub record AfterDigits (n i quad here left : ℕ) : Type 0 where
+-- A partial root and its remainder.
+pub record Partial : Type 0 where
   pub root : ℕ
   pub rem : ℕ
-  pub extracted : Extracted (taken n i) root rem
-  pub short : root < 2 ^ i
-  pub fourfold : quad ≡ 4 * root
-  pub brought : here ≡ 4 * rem + coming n i / 2 ^ 52
-  pub window : left ≡ coming n (suc i)
+
+-- One digit more, with two more digits taken. It is 1 where what that adds to the root's square, 4 * root + 1, is still there.
+unfoldable pub oneMore : Partial → ℕ → Partial
+oneMore p two =
+    let here = 4 * p .rem + two in
+    let more = 4 * p .root + 1 in
+    let one = leb more here in
+    record { root = 2 * p .root + cond one 1 0; rem = here - cond one more 0 }
+
+unfoldable pub afterDigits : ℕ → ℕ → Partial
+afterDigits scaled zero = record { root = 0; rem = 0 }
+afterDigits scaled (suc i) = oneMore (afterDigits scaled i) (taken scaled (suc i) % 4)
+
+unfoldable pub wholeRoot : ℕ → ℕ
+wholeRoot scaled = afterDigits scaled 54 .root
+
+-- ---- the loop
+
+-- What the loop holds after i digits: the root in units; what is left, which is the remainder and behind it the scaled number's digits still to come,
+-- moved down by half as many places; and the unit, which halves with each digit.
+pub record Holds (scaled i root left unit : ℕ) : Type 0 where
+  pub in-units : root ≡ afterDigits scaled i .root * unit
+  pub remains : left * 2 ^ (54 - i) ≡ 2 * (afterDigits scaled i .rem * 4 ^ (54 - i) + scaled % 4 ^ (54 - i))
+  pub halved : unit ≡ 2 ^ (55 - i)
 
 -- The state before a digit is within these bounds.
-pub record Ready (quad here left : ℕ) : Type 0 where
-  pub quad-short : quad < 2 ^ 56
-  pub here-short : here < 2 ^ 58
-  pub left-short : left < 2 ^ 54
+pub record Ready (root left unit : ℕ) : Type 0 where
+  pub root-short : root < 2 ^ 55
+  pub left-short : left < 2 ^ 57
+  pub unit-short : unit ≤ 2 ^ 55
+  pub quarters : unit % 4 ≡ 0
 
--- One digit more. It is 1 where what that adds to the root's square, 4 * root + 1, is still there.
-pub record NextDigit (quad here left quad′ here′ left′ : ℕ) : Type 0 where
-  pub one : quad < here → (quad′ ≡ quad * 2 + 4) × (here′ ≡ here * 4 + left / 2 ^ 52 - (quad * 4 + 4))
-  pub none : here ≤ quad → (quad′ ≡ quad * 2) × (here′ ≡ here * 4 + left / 2 ^ 52)
-  pub window : left′ ≡ left % 2 ^ 52 * 4
+-- One digit more, in units. The trial for it is the root with a quarter of the unit.
+pub record NextDigit (root left unit root′ left′ unit′ : ℕ) : Type 0 where
+  pub one : root + unit / 4 ≤ left → (root′ ≡ root + unit / 2) × (left′ + 2 * (root + unit / 4) ≡ 2 * left)
+  pub none : left < root + unit / 4 → (root′ ≡ root) × (left′ ≡ 2 * left)
+  pub halved : unit′ ≡ unit / 2
 
--- `r` is `v` where `quad` is below `here`, else 0.
-pub record Chosen (quad here v r : ℕ) : Type 0 where
-  pub yes : quad < here → r ≡ v
-  pub no : here ≤ quad → r ≡ 0
-
--- The whole root of an n below 4 ^ k: the root of n's digits but the last two, and one digit more.
-unfoldable pub wholeRoot : ℕ → ℕ → ℕ
-wholeRoot zero n = 0
-wholeRoot (suc k) n =
-    let r = 2 * wholeRoot k (n / 4) in
-    cond (leb ((r + 1) * (r + 1)) n) (r + 1) r
+-- `r` is `one` where the trial is not above what is left, else `none`.
+pub record Chosen (left trial none one r : ℕ) : Type 0 where
+  pub yes : trial ≤ left → r ≡ one
+  pub no : left < trial → r ≡ none

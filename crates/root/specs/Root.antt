@@ -56,7 +56,7 @@ height b = exponent b + 1022 - shift b
 
 -- A whole root of 54 digits, rounded to 53: half of it, upwards. There is no tie, since the number is even, and so never the square of an odd root.
 unfoldable pub rootBits : ℕ → ℕ
-rootBits b = height b / 2 * 2 ^ 52 + (wholeRoot 54 (scaled b * 2 ^ 54) + 1) / 2
+rootBits b = height b / 2 * 2 ^ 52 + (wholeRoot (scaled b * 2 ^ 54) + 1) / 2
 
 -- ---- the root of any double
 

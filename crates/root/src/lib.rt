@@ -4,7 +4,7 @@
 // `sqrt` is for callers in other crates, total as Rust's is. `root` is the entry that refuses.
 ghost use mathlib.Core.Path.{_≡_};
 ghost use Prim.Native.Nat.{_+_, _*_, _≤_, _<_, _^_};
-ghost use Rattle.root.specs.Digits.{Chosen, Ready, NextDigit, AfterDigits, wholeRoot};
+ghost use Rattle.root.specs.Digits.{Chosen, Ready, NextDigit, Holds, wholeRoot};
 ghost use Rattle.root.specs.Root.{significand, exponent, shiftOf, rootBits, rootOf, rootAnswer, viewRooted};
 
 // What `root` answers: the root, or the number of the refusal.
@@ -13,82 +13,67 @@ pub enum Rooted {
     Refused(u32),
 }
 
-// The digit loop's state: four times the whole root so far; what is left of the part taken, with the
-// next two digits brought down to it; and a window of 54 digits with those that come after. With the
-// two digits brought down already, a digit waits for the one before it by a comparison, a choice and
-// a difference, and no more.
+// The digit loop's state, in place: the root so far times the unit; what is left of the number, that
+// is the remainder times the unit with the digits still to come behind it; and the unit. With each
+// digit what is left doubles and the unit halves, so that no digit is ever brought down.
 struct Digits {
-    quad: u64,
-    here: u64,
+    root: u64,
     left: u64,
+    unit: u64,
 }
 
 // 2 ^ 52, the weight of a double's leading digit.
 const HIDDEN: u64 = 4503599627370496;
 
-// What a digit adds to four times the root, once that has doubled: 4 where the digit is 1. This
-// choice and the next are functions of their own, so that they compile without a branch.
-fn added(quad: u64, here: u64) -> u64
-    ensures { λ r. ⌜ Chosen quad here 4 r ⌝ }
+// A number by the digit, which is 1 where the trial is not above what is left. A function of its own,
+// so that it compiles without a branch.
+fn chosen(left: u64, trial: u64, none: u64, one: u64) -> u64
+    ensures { λ r. ⌜ Chosen left trial none one r ⌝ }
 {
-    if quad < here { 4 } else { 0 }
+    if left < trial { none } else { one }
 }
 
-// What a digit takes off what is left, two digits further on: 4 * (4 * root + 1) where it is 1.
-fn taken_off(quad: u64, here: u64) -> u64
-    requires { ⌜ quad < 2 ^ 56 ⌝ }
-    ensures { λ r. ⌜ Chosen quad here (quad * 4 + 4) r ⌝ }
-{
-    if quad < here { quad * 4 + 4 } else { 0 }
-}
-
-// One digit of the root.
+// One digit of the root. Where it is 1, twice the trial is taken off what is left, doubled: that is
+// the old root and the new one together.
 fn next_digit(d: Digits) -> Digits
-    requires { ⌜ Ready (d .quad) (d .here) (d .left) ⌝ }
-    ensures { λ r. ⌜ NextDigit (d .quad) (d .here) (d .left) (r .quad) (r .here) (r .left) ⌝ }
+    requires { ⌜ Ready (d .root) (d .left) (d .unit) ⌝ }
+    ensures { λ r. ⌜ NextDigit (d .root) (d .left) (d .unit) (r .root) (r .left) (r .unit) ⌝ }
 {
+    let half = d.unit / 2;
+    let grown = d.root + half;
+    let trial = d.root + half / 2;
     Digits {
-        quad: d.quad * 2 + added(d.quad, d.here),
-        here: d.here * 4 + d.left / HIDDEN - taken_off(d.quad, d.here),
-        left: d.left % HIDDEN * 4,
+        root: chosen(d.left, trial, d.root, grown),
+        left: d.left * 2 - chosen(d.left, trial, 0, d.root + grown),
+        unit: half,
     }
 }
 
-// 27 digits of the root of n * 2 ^ 54, after the first `from`: n is there for the contract alone.
-fn digits_27(n: u64, d: Digits, from: u32) -> Digits
-    requires { ⌜ (n < 2 ^ 54) × ((from ≤ 27) × AfterDigits n from (d .quad) (d .here) (d .left)) ⌝ }
-    ensures { λ r. ⌜ AfterDigits n (from + 27) (r .quad) (r .here) (r .left) ⌝ }
+// The first `count` digits of the root of n * 2 ^ 54, which has 54.
+fn after_digits(n: u64, count: u32) -> Digits
+    requires { ⌜ (n < 2 ^ 54) × (count ≤ 54) ⌝ }
+    ensures { λ r. ⌜ Holds (n * 2 ^ 54) count (r .root) (r .left) (r .unit) ⌝ }
 {
-    let mut s = d;
+    let mut s = Digits {
+        root: 0,
+        left: n * 2,
+        unit: 36028797018963968,
+    };
     let mut i: u32 = 0;
-    while i < 27 {
+    while i < count {
         s = next_digit(s);
-        s = next_digit(s);
-        s = next_digit(s);
-        i += 3;
+        i += 1;
     }
     s
 }
 
-// The whole root of n * 2 ^ 54, in 54 digits. After 27 of them the window is empty, which the
-// compiler makes use of.
+// The whole root of n * 2 ^ 54.
 fn whole_root(n: u64) -> u64
     requires { ⌜ n < 2 ^ 54 ⌝ }
-    ensures { λ r. ⌜ r ≡ wholeRoot 54 (n * 2 ^ 54) ⌝ }
+    ensures { λ r. ⌜ r ≡ wholeRoot (n * 2 ^ 54) ⌝ }
 {
-    let start = Digits {
-        quad: 0,
-        here: n / HIDDEN,
-        left: n % HIDDEN * 4,
-    };
-    let half = digits_27(n, start, 0);
-    let rest = Digits {
-        quad: half.quad,
-        here: half.here,
-        left: 0,
-    };
-    let whole = digits_27(n, rest, 27);
-    whole.quad / 4
+    let all = after_digits(n, 54);
+    all.root / 2
 }
 
 fn significand_of(b: u64) -> u64

@@ -1,20 +1,14 @@
--- `root::whole_root` meets its contract. 27 digits, an empty window, and 27 more make the whole root. Assumes nothing.
+-- `root::whole_root` meets its contract. All 54 digits, in units of 2, make the whole root. Assumes nothing.
 use borrow.Author.Needs.{needs}
-use Rattle.root.proofs.Whole.{begun, window-empty, ended}
+use Rattle.root.proofs.Whole.{ended}
 use Rattle.root.proofs.whole_root.Statement.{statement}
 use Rattle.root.proofs.whole_root.Tie as tie
 
-mul-t8 : tie.Need-mul-t8
-mul-t8 c = search needs
-
-digits-27-requires : tie.Need-digits-27-requires
-digits-27-requires c κs = (c .pre, (search needs, begun _ (c .pre)))
-
-digits-27-requires-2 : tie.Need-digits-27-requires-2
-digits-27-requires-2 c κs = (c .before .pre, (search needs, window-empty _ _ _ _ (c .digits-27 .ensures)))
+after-digits-requires : tie.Need-after-digits-requires
+after-digits-requires c κs = (c .pre, search needs)
 
 returns : tie.Need-returns
-returns c = ended _ _ _ _ (c .before .before .before .pre) (c .before .digits-272 .ensures)
+returns c = ended _ _ _ _ (c .before .after-digits .ensures)
 
 pub whole-root-spec : {M : Type 1} → statement M
-whole-root-spec = tie.close (tie.spec mul-t8 digits-27-requires digits-27-requires-2 returns)
+whole-root-spec = tie.close (tie.spec after-digits-requires returns)
