@@ -11,7 +11,7 @@ use lib.Pow.{pow-pos, pow-mono, pow-add}
 use lib.Count.{leadingZeros, leading-top}
 use Rattle.rule.proofs.Tests.{le-or-gt}
 use Rattle.root.specs.Digits.{Extracted, wholeRoot}
-use Rattle.root.specs.Root.{significand, exponent, shiftOf, shift, scaled, height, rootBits}
+use Rattle.root.specs.Root.{IsScaled, significand, exponent, shiftOf, shift, scaled, height, rootBits}
 use Rattle.root.proofs.Whole.{square-next, square-double, whole-is}
 use Rattle.root.proofs.Patterns.{value, value-next, value-mono, value-made, exponent-is, significand-lt, significand-pos}
 
@@ -279,10 +279,23 @@ shifted b m e s pos fin p q r =
       height = ap₂ (λ (x y : ℕ). x + 1022 - y) q k;
     }
 
-pub root-within : (b r : ℕ) {m e s : ℕ} → 0 < b → Shifted b m e s → r ≡ wholeRoot (m * 2 ^ s % 2 ^ 64 * 2 ^ 54) → r < 2 ^ 54
-root-within b r pos f h = rw (h ∙ ap (λ (x : ℕ). wholeRoot (x * 2 ^ 54)) (f .up)) (digits54 b pos .short)
+-- the number is scaled by its fields and the shift
+pub is-scaled : (b m e s : ℕ) → Shifted b m e s → IsScaled b (m * 2 ^ s % 2 ^ 64) ((e + 1022 - s) / 2 * 2 ^ 52)
+is-scaled b m e s f = record { digits = f .up; exponent-in-place = ap (λ (x : ℕ). x / 2 * 2 ^ 52) (f .height) }
 
-pub returned : (b m e s r : ℕ) → Shifted b m e s → r ≡ wholeRoot (m * 2 ^ s % 2 ^ 64 * 2 ^ 54) → (e + 1022 - s) / 2 * 2 ^ 52 + (r + 1) / 2 ≡ rootBits b
+-- a scaled number, its place, and the whole root
+pub record Rounded (b place r : ℕ) : Type 0 where
+  pub low : place ≤ 2045 * 2 ^ 52
+  pub short : r < 2 ^ 54
+  pub is : place + (r + 1) / 2 ≡ rootBits b
+
+pub rounded-is : (b n place r : ℕ) → 0 < b → b < 2047 * 2 ^ 52 → IsScaled b n place → r ≡ wholeRoot (n * 2 ^ 54) → Rounded b place r
 unfolding rootBits
-returned b m e s r f h =
-    ap₂ (λ (x y : ℕ). x / 2 * 2 ^ 52 + (y + 1) / 2) (f .height) (h ∙ ap (λ (x : ℕ). wholeRoot (x * 2 ^ 54)) (f .up))
+rounded-is b n place r pos fin s h =
+    let k = low-height b pos fin in
+    let e = s .exponent-in-place in
+    let w : r ≡ wholeRoot (scaled b * 2 ^ 54) = h ∙ ap (λ (x : ℕ). wholeRoot (x * 2 ^ 54)) (s .digits) in
+    record { low = omega arith; short = rw w (digits54 b pos .short); is = ap₂ (λ (x y : ℕ). x + (y + 1) / 2) e w }
+
+pub scaled-short : (b n place : ℕ) → 0 < b → IsScaled b n place → n < 2 ^ 54
+scaled-short b n place pos s = rw (s .digits) (scaled-is b pos .most)

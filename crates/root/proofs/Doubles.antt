@@ -20,6 +20,7 @@ use Rattle.rule.proofs.Nan.{no-nan-bits}
 use Rattle.rule.proofs.Zero.{zero-lt, eq-zero, zero-eq, eq-zeros, zeros-eq}
 use Rattle.root.specs.Double.{units}
 use Rattle.root.specs.Root.{significand, exponent, rootBits, hasRoot, rootOf, rootAnswer}
+use Rattle.root.proofs.Bits.{rootBits-finite}
 use Rattle.root.proofs.Patterns.{value, exponent-is, significand-low, significand-high}
 
 -- ---- what comparisons with 0 and with infinity say
@@ -140,8 +141,16 @@ pattern-finite a f p =
       ⊎-elim (λ (g : 2047 * 2 ^ 52 ≤ toBits binary64 a). absurd (beyond (toBits binary64 a) g q)) (λ g. g) (le-or-gt (2047 * 2 ^ 52) (toBits binary64 a)),
     )
 
-pub no-nan-pattern : (n : ℕ) → n < 2047 * 2 ^ 52 → T (not (nanBits binary64 n))
+no-nan-pattern : (n : ℕ) → n < 2047 * 2 ^ 52 → T (not (nanBits binary64 n))
 no-nan-pattern n h = no-nan-bits n (omega arith)
+
+-- ---- from the root's pattern to the root
+
+pub root-no-nan : (a : Float) (p : ℕ) → T (fits binary64 a) → T (positive a) → p ≡ rootBits (toBits binary64 a) → T (not (nanBits binary64 p))
+root-no-nan a p f q e = let b = pattern-finite a f q in rw e (no-nan-pattern _ (rootBits-finite _ (b .0) (b .1) .1))
+
+pub root-read : (a : Float) (p : ℕ) → T (positive a) → p ≡ rootBits (toBits binary64 a) → ofBits binary64 p ≡ rootOf a
+root-read a p q e = ap (ofBits binary64) e ∙ sym (root-positive a q)
 
 -- ---- the pattern stands for the double's number
 

@@ -1,6 +1,7 @@
 -- Document 01, 'Root', and refusal 15: the square root of a double, IEEE 754's squareRoot under roundTiesToEven.
 -- `rootOf` computes it. That it is the root that 01 describes (`IsRoot`), and the only one, is `proofs/Correct.antt`.
 use mathlib.Core.Bool.{Bool, true, false, not, cond}
+use mathlib.Core.Path.{_≡_}
 use Prim.Native.Nat.{ℕ, zero, suc, _+_, _-_, _*_, _/_, _%_, _^_, _<_}
 use lib.Dec.{T, ltb}
 use lib.Count.{leadingZeros}
@@ -53,6 +54,11 @@ scaled b = significand b * 2 ^ shift b
 
 unfoldable pub height : ℕ → ℕ
 height b = exponent b + 1022 - shift b
+
+-- Scaled for the root: that significand, and half of that exponent in the place of a double's.
+pub record IsScaled (b n place : ℕ) : Type 0 where
+  pub digits : n ≡ scaled b
+  pub exponent-in-place : place ≡ height b / 2 * 2 ^ 52
 
 -- A whole root of 54 digits, rounded to 53: half of it, upwards. There is no tie, since the number is even, and so never the square of an odd root.
 unfoldable pub rootBits : ℕ → ℕ

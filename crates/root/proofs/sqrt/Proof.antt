@@ -1,10 +1,9 @@
 -- `root::sqrt` meets its contract. By the tests on a: a finite positive double by its pattern, infinity, a zero, and what has no root. Assumes nothing.
-use mathlib.Core.Path.{sym, ap, subst, _∙_}
+use mathlib.Core.Path.{sym, subst}
 use lib.Dec.{T}
-use lib.Ieee.{binary64, ofBits, nanBits}
+use lib.Ieee.{nanBits}
 use lib.Ieee.Positive.{positive}
-use Rattle.root.proofs.Bits.{rootBits-finite}
-use Rattle.root.proofs.Doubles.{positive-of, no-nan, root-positive, root-infinite, root-zero, root-none, pattern-finite, no-nan-pattern}
+use Rattle.root.proofs.Doubles.{positive-of, no-nan, root-infinite, root-zero, root-none, pattern-finite, root-no-nan, root-read}
 use Rattle.root.proofs.sqrt.Statement.{statement}
 use Rattle.root.proofs.sqrt.Tie as tie
 
@@ -22,12 +21,10 @@ root-bits-requires : tie.Need-root-bits-requires
 root-bits-requires c κs = pattern-finite (c .before .before .args .a) (subst T (sym (c .before .before .good .0 .1)) tt) (is-positive c)
 
 float-from-bits-result : tie.Need-float-from-bits-result
-float-from-bits-result c =
-    let p = pattern-finite (c .before .before .before .args .a) (subst T (sym (c .before .before .before .good .0 .1)) tt) (is-positive (c .before)) in
-    rw (c .root-bits .ensures) (no-nan-pattern _ (rootBits-finite _ (p .0) (p .1) .1))
+float-from-bits-result c = root-no-nan _ _ (subst T (sym (c .before .before .before .good .0 .1)) tt) (is-positive (c .before)) (c .root-bits .ensures)
 
 returns : tie.Need-returns
-returns c = ap (ofBits binary64) (c .root-bits .ensures) ∙ sym (root-positive (c .before .before .before .args .a) (is-positive (c .before)))
+returns c = root-read _ _ (is-positive (c .before)) (c .root-bits .ensures)
 
 returns-2 : tie.Need-returns-2
 returns-2 c = root-infinite _ (c .before .if1 .taken) (c .if2 .left)
