@@ -8,7 +8,7 @@ use lib.Count.{leadingZeros}
 use lib.ListN.{length}
 use lib.Ieee.{Float, binary64, ofBits, toBits, le}
 use Rattle.rule.specs.Arith.{_⊘_}
-use Rattle.root.specs.Digits.{wholeRoot}
+use Rattle.root.specs.Digits.{taken, oneMore, afterDigits, wholeRoot}
 use Rattle.root.specs.Root.{significand, exponent, shiftOf, shift, scaled, height, rootBits, rootOf}
 use Rattle.numbers.specs.Constants.{two, epsilon}
 use Rattle.sheet.specs.Marks.{marksOf, points}
@@ -22,7 +22,7 @@ abbrev root-2 : Float
 root-2 = ofBits binary64 0x3ff6_a09e_667f_3bcd
 
 root-of-2 : root-2 ≡ rootOf two
-unfolding ofBits toBits leadingZeros wholeRoot significand exponent shiftOf shift scaled height rootBits rootOf
+unfolding ofBits toBits leadingZeros taken oneMore afterDigits wholeRoot significand exponent shiftOf shift scaled height rootBits rootOf
 root-of-2 = refl
 
 module _ (side : Side) (l : List Float) {centre : Point} {mean : Float} {n : ℕ} (c : centre ≡ centroidOf (points side l)) (m : mean ≡ meanDistance centre (points side l)) (count : n ≡ length (marksOf l)) where

@@ -1,7 +1,8 @@
 -- A sum over one side's points, point by point: what is owed from place i on, and the mean at the end. Assumes nothing.
-use mathlib.Core.Path.{_≡_, refl, sym, ap, _∙_}
+use mathlib.Core.Path.{_≡_, refl, sym, ap, subst, _∙_}
 use mathlib.Core.List.{List}
 use Prim.Native.Nat.{ℕ, _+_, _≤_, _<_}
+use native.Mathlib.Omega.{arith}
 use lib.IntN.{pos}
 use lib.ListN.{length, drop}
 use lib.Ieee.{Float, binary64, ofInt}
@@ -30,6 +31,11 @@ module _ (term : Point → Float) (side : Side) (l : List Float) where
             ∙ sum-next term (points side l) (noPoint side) sum i (rw (points-count side l) h)
             ∙ ap (λ q. sumFrom term (sum ⊕ term q) (drop (i + 1) (points side l))) (point-read side l i ∙ sym e);
       }
+
+  pub owed-two : {sum : Float} {i : ℕ} {p q : Point} → i + 1 < length (marksOf l) → p ≡ pointAt side l i → q ≡ pointAt side l (i + 1) → Owed sum i → Owed (sum ⊕ term p ⊕ term q) (i + 2)
+  owed-two {sum} {i} {p} {q} h e f o =
+      let two : i + 1 + 1 ≡ i + 2 = omega arith in
+      subst (Owed (sum ⊕ term p ⊕ term q)) two (owed-next h f (owed-next (let g : i < length (marksOf l) = omega arith in g) e o))
 
   pub owed-mean : {sum c : Float} {i n : ℕ} → n ≡ length (marksOf l) → n ≤ i → Owed sum i → c ≡ ofInt binary64 (pos n) → sum ⊘ c ≡ mean term (points side l)
   unfolding mean

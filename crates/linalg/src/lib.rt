@@ -48,18 +48,26 @@ pub fn centroid(marks: &[f64], side: Side) -> Point
     }
 }
 
+// The points go in twos, since two roots together take less time than one after the other.
 pub fn mean_distance(marks: &[f64], side: Side, centre: Point) -> f64
     ensures { λ r. ⌜ r ≡ meanDistance centre (pointsOf side (now (marks .entry))) ⌝ }
 {
     let n = sheet::mark_count(marks);
     let mut sum = 0.0;
     let mut i = 0;
-    while i < n {
+    while 1 < n - i {
         let p = sheet::point_at(marks, side, i);
-        sum = sum + root::sqrt(sheet::squared_apart(p, centre));
-        i += 1;
+        let q = sheet::point_at(marks, side, i + 1);
+        let two = root::sqrt_two(sheet::squared_apart(p, centre), sheet::squared_apart(q, centre));
+        sum = sum + two.first + two.second;
+        i += 2;
     }
-    sum / std::num::nearest_u64_to_f64(n as u64)
+    let count = std::num::nearest_u64_to_f64(n as u64);
+    if i < n {
+        let last = sheet::point_at(marks, side, i);
+        return (sum + root::sqrt(sheet::squared_apart(last, centre))) / count;
+    }
+    sum / count
 }
 
 // The change that normalises one side. The root of 2 is a constant: that of the definition.

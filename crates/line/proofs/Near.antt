@@ -14,7 +14,7 @@ use lib.Ieee.Fits.{add-fits, and-l}
 use lib.Ieee.Bits.{ofBits-fits}
 use lib.Ieee.Positive.{positive, above, above-of-le, cross→le, le-trans-positive}
 use Rattle.rule.proofs.Tests.{either, is-test, clash}
-use Rattle.root.specs.Digits.{wholeRoot}
+use Rattle.root.specs.Digits.{taken, oneMore, afterDigits, wholeRoot}
 use Rattle.root.specs.Root.{significand, exponent, shiftOf, shift, scaled, height, rootBits, hasRoot, rootOf}
 use Rattle.root.proofs.Monotone.{root-monotone}
 use Rattle.numbers.specs.Constants.{samePoint}
@@ -34,11 +34,11 @@ abbrev next : Float
 next = ofBits binary64 0x3e11_2e0b_e826_d696
 
 root-of-low : rootOf low ≡ samePoint
-unfolding ofBits toBits leadingZeros wholeRoot significand exponent shiftOf shift scaled height rootBits rootOf
+unfolding ofBits toBits leadingZeros taken oneMore afterDigits wholeRoot significand exponent shiftOf shift scaled height rootBits rootOf
 root-of-low = refl
 
 root-of-high : rootOf high ≡ next
-unfolding ofBits toBits leadingZeros wholeRoot significand exponent shiftOf shift scaled height rootBits rootOf
+unfolding ofBits toBits leadingZeros taken oneMore afterDigits wholeRoot significand exponent shiftOf shift scaled height rootBits rootOf
 root-of-high = refl
 
 -- ---- order, against a positive double

@@ -3,7 +3,7 @@ use mathlib.Core.Path.{refl}
 use lib.Count.{leadingZeros}
 use lib.Ieee.{round, ofBits, toBits, neg, add, sub, mul, div, lt, eq, le, ofInt}
 use Rattle.rule.specs.Lists.{countOf, those, sumFrom}
-use Rattle.root.specs.Digits.{wholeRoot}
+use Rattle.root.specs.Digits.{taken, oneMore, afterDigits, wholeRoot}
 use Rattle.root.specs.Root.{significand, exponent, shiftOf, shift, scaled, height, rootBits, hasRoot, rootOf, rootAnswer}
 use Rattle.numbers.specs.Measure.{asDistance}
 use Rattle.numbers.specs.Ratio.{squaredOff}
@@ -16,7 +16,7 @@ use Rattle.sheet.specs.Distance.{projectionOf, beyondUnder, squaredResidual, me
 use Rattle.starred.specs.Starred.{Starred}
 
 pub starred : Starred
-unfolding round ofBits toBits neg add sub mul div lt le leadingZeros wholeRoot significand exponent shiftOf shift scaled height rootBits hasRoot rootOf rootAnswer absOf isFinite within counts0 linear discriminant ascending curved rootsOf quadraticAnswer countOf pointOf squaredOff projectionOf beyondUnder squaredResidual measureOf asDistance distanceOf inlier eq close countIn those sumFrom square squaresIn rmsOf rmsIn ofInt countUnder stopAt standing judgedBy standsOf judgeTrial isBetter beats winnerAfter scoredAnswer raised lowered boundAfter entered endedAt hasEnded called fresh bookAfter answersOf beyondFit
+unfolding round ofBits toBits neg add sub mul div lt le leadingZeros taken oneMore afterDigits wholeRoot significand exponent shiftOf shift scaled height rootBits hasRoot rootOf rootAnswer absOf isFinite within counts0 linear discriminant ascending curved rootsOf quadraticAnswer countOf pointOf squaredOff projectionOf beyondUnder squaredResidual measureOf asDistance distanceOf inlier eq close countIn those sumFrom square squaresIn rmsOf rmsIn ofInt countUnder stopAt standing judgedBy standsOf judgeTrial isBetter beats winnerAfter scoredAnswer raised lowered boundAfter entered endedAt hasEnded called fresh bookAfter answersOf beyondFit
 starred =
     record {
       under-I = refl;
