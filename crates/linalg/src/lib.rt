@@ -58,7 +58,10 @@ pub fn mean_distance(marks: &[f64], side: Side, centre: Point) -> f64
     while 1 < n - i {
         let p = sheet::point_at(marks, side, i);
         let q = sheet::point_at(marks, side, i + 1);
-        let two = root::sqrt_two(sheet::squared_apart(p, centre), sheet::squared_apart(q, centre));
+        let two = root::sqrt_two(
+            sheet::squared_apart(p, centre),
+            sheet::squared_apart(q, centre),
+        );
         sum = sum + two.first + two.second;
         i += 2;
     }

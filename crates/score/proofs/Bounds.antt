@@ -141,23 +141,20 @@ pub above-clear : (t : Float) → lt zero′ t ≡ true → T (clear t)
 above-clear t h = over-clear zero′ t zero-clear h
 
 -- below and above a limit that is a double above 0
-module _ (thresh a b : Float) {root : Float} (sign : lt zero′ thresh ≡ true) (above : lt zero′ (a ⊗ b) ≡ true) (is : root ≡ rootOf (a ⊗ b)) where
-  abbrev limit : Float
-  limit = a ⊗ b
-
+module _ (thresh limit : Float) (double : T (fits binary64 limit)) {root : Float} (is : root ≡ rootOf limit) (sign : lt zero′ thresh ≡ true) (above : lt zero′ limit ≡ true) where
   limit-root : T (clear (rootOf limit))
-  limit-root = root-clear limit (mul-fits binary64 a b) (above-clear limit above)
+  limit-root = root-clear limit double (above-clear limit above)
 
-  pub low-limit : le root thresh ≡ true → Low thresh (a ⊗ b)
+  pub low-limit : le root thresh ≡ true → Low thresh limit
   low-limit h =
       record {
-        within = λ d f c g. is-true (le (rootOf d) thresh) (le-trans-clear (rootOf d) (rootOf limit) thresh (root-clear d f c) limit-root (above-clear thresh sign) (root-monotone d limit f (mul-fits binary64 a b) (clear-hasRoot d c) (is-test (le d limit) g)) (is-test (le (rootOf limit) thresh) (ap (λ r. le r thresh) (sym is) ∙ h)));
+        within = λ d f c g. is-true (le (rootOf d) thresh) (le-trans-clear (rootOf d) (rootOf limit) thresh (root-clear d f c) limit-root (above-clear thresh sign) (root-monotone d limit f double (clear-hasRoot d c) (is-test (le d limit) g)) (is-test (le (rootOf limit) thresh) (ap (λ r. le r thresh) (sym is) ∙ h)));
       }
 
-  pub high-limit : lt thresh root ≡ true → High thresh (a ⊗ b)
+  pub high-limit : lt thresh root ≡ true → High thresh limit
   high-limit h =
       record {
-        beyond = λ d f c g. lt-not-le thresh (rootOf d) (above-clear thresh sign) (root-clear d f c) (lt-le-trans thresh (rootOf limit) (rootOf d) (above-clear thresh sign) limit-root (root-clear d f c) (ap (λ r. lt thresh r) (sym is) ∙ h) (root-monotone limit d (mul-fits binary64 a b) f (clear-hasRoot limit (above-clear limit above)) (is-test (le limit d) g)));
+        beyond = λ d f c g. lt-not-le thresh (rootOf d) (above-clear thresh sign) (root-clear d f c) (lt-le-trans thresh (rootOf limit) (rootOf d) (above-clear thresh sign) limit-root (root-clear d f c) (ap (λ r. lt thresh r) (sym is) ∙ h) (root-monotone limit d double f (clear-hasRoot limit (above-clear limit above)) (is-test (le limit d) g)));
       }
 
 -- a NaN is no limit

@@ -118,7 +118,7 @@ module _ (thresh : Float) (qs : List Float) where
             let c = square-clear d (compared d thresh h) in
             record {
               whole = s .whole ⊕ d ⊗ d;
-              summed = summed-more thresh qs here (sym h) (s .summed) refl refl;
+              summed = summed-more thresh qs here (sym h) (s .summed) refl;
               double = add-fits binary64 _ _;
               whole-sign = add-clear (s .whole) (d ⊗ d) (s .whole-sign) c;
               sign = sign′;

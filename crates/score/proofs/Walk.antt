@@ -19,8 +19,9 @@ use Rattle.root.specs.Root.{rootOf}
 use Rattle.numbers.specs.Constants.{zero′, infinity}
 use Rattle.book.specs.Score.{close, countIn, square, squaresIn, rmsOf}
 use Rattle.score.specs.Places.{indicesIn, cramped, indexed, indexCount}
-use Rattle.score.specs.Limits.{Settles, surely, possibly, Tallied}
+use Rattle.score.specs.Limits.{Settles, surely, possibly, Tallied, withWaiting}
 use Rattle.score.specs.declared.Limits.{Limits}
+use Rattle.score.specs.declared.Sum.{Sum}
 
 -- nothing is written for over 2,000 distances
 pub too-many : (thresh : Float) (ds : List Float) (entry : List ℕ) → 2000 < length ds → (0 ≡ indexCount thresh ds entry) × (entry ≡ indexed thresh ds entry)
@@ -91,15 +92,9 @@ module _ (thresh : Float) (qs : List Float) where
   summed-all {i} {sum} g k = ap (λ x. sumFrom square sum x) (sym (those-end (close thresh) ds nan i (rw ds-length g))) ∙ k .owed
 
   module _ {i : ℕ} (here : i < length qs) {b : Bool} (answer : b ≡ le (rootOf (getD qs i nan)) thresh) {sum : Float} (s : Summed sum i) where
-    pub summed-more : b ≡ true → {x : Float} → x ≡ rootOf (getD qs i nan) → Summed (sum ⊕ x ⊗ x) (i + 1)
-    unfolding sumFrom square
-    summed-more e {x} r =
-        record {
-          owed =
-              ap (λ y. sumFrom square (sum ⊕ y ⊗ y) (those (close thresh) (drop (i + 1) ds))) r
-              ∙ sym (ap (λ y. sumFrom square sum y) (those-yes here answer e))
-              ∙ s .owed;
-        }
+    pub summed-more : b ≡ true → Summed (sum ⊕ square (rootOf (getD qs i nan))) (i + 1)
+    unfolding sumFrom
+    summed-more e = record { owed = sym (ap (λ y. sumFrom square sum y) (those-yes here answer e)) ∙ s .owed }
 
     pub summed-same : b ≡ false → Summed sum (i + 1)
     summed-same e = record { owed = sym (ap (λ y. sumFrom square sum y) (those-no here answer e)) ∙ s .owed }
@@ -180,6 +175,25 @@ module _ (thresh : Float) (qs : List Float) where
           let few = le-ltb 2000 (length ds) (rw ds-length m) in
           let all = placed-all e p in
           (rw (fits, few) (all .0 ∙ places-count (close thresh) 0 ds), rw (fits, few) (all .1))
+
+-- ---- the sum, with the one that waits
+
+module _ (s : Sum) where
+  pub waiting-last : s .waits ≡ true → {d : Float} → d ≡ rootOf (s .waiting) → s .total ⊕ d ⊗ d ≡ withWaiting s
+  unfolding withWaiting square
+  waiting-last w e = rw (w, e)
+
+  pub waiting-none : s .waits ≡ false → s .total ≡ withWaiting s
+  unfolding withWaiting
+  waiting-none w = rw w
+
+  pub waiting-added : (q : Float) {d e : Float} → s .waits ≡ true → (d ≡ rootOf (s .waiting)) × (e ≡ rootOf q) → s .total ⊕ d ⊗ d ⊕ e ⊗ e ≡ withWaiting s ⊕ square (rootOf q)
+  unfolding withWaiting square
+  waiting-added q w h = rw (w, h .0, h .1)
+
+  pub waiting-kept : (q : Float) → s .waits ≡ false → s .total ⊕ square (rootOf q) ≡ withWaiting s ⊕ square (rootOf q)
+  unfolding withWaiting
+  waiting-kept q w = rw w
 
 -- ---- the tally: between what is surely and what is possibly within lies the count
 

@@ -5,12 +5,13 @@ use mathlib.Core.List.{List, map}
 use Prim.Native.Nat.{ℕ, _≤_}
 use lib.Dec.{T}
 use lib.Ieee.{Float, binary64, fits, le}
-use Rattle.rule.specs.Arith.{clear}
+use Rattle.rule.specs.Arith.{clear, _⊕_}
 use Rattle.rule.specs.Lists.{countOf}
 use Rattle.root.specs.Root.{rootOf}
 use Rattle.numbers.specs.Constants.{zero′}
 use Rattle.book.specs.Score.{countIn, square}
 use Rattle.score.specs.declared.Limits.{Limits}
+use Rattle.score.specs.declared.Sum.{Sum}
 
 pub record Low (thresh low : Float) : Type 0 where
   pub within : (d : Float) → T (fits binary64 d) → T (clear d) → le d low ≡ true → le (rootOf d) thresh ≡ true
@@ -37,6 +38,10 @@ pub record Tallied (l : Limits) (qs : List Float) (sure possible : ℕ) : Type 0
   pub possible-is : possible ≡ countOf (possibly l) qs
   pub at-least : sure ≤ countIn (l .thresh) (map rootOf qs)
   pub at-most : countIn (l .thresh) (map rootOf qs) ≤ possible
+
+-- a sum of squares, with the one that waits for its root
+unfoldable pub withWaiting : Sum → Float
+withWaiting s = cond (s .waits) (s .total ⊕ square (rootOf (s .waiting))) (s .total)
 
 -- what a distance adds to the sum of squares
 unfoldable pub addend : Float → Float → Float

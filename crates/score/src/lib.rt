@@ -8,9 +8,10 @@ ghost use mathlib.Core.List.{map};
 ghost use Prim.Native.Nat.{_≤_};
 ghost use lib.Ieee.{le};
 ghost use Rattle.root.specs.Root.{rootOf};
-ghost use Rattle.book.specs.Score.{countIn, squaresIn, rmsOf};
+ghost use Rattle.rule.specs.Arith.{_⊕_};
+ghost use Rattle.book.specs.Score.{countIn, square as squareOf, squaresIn, rmsOf};
 ghost use Rattle.score.specs.Places.{indexCount, indexed};
-ghost use Rattle.score.specs.Limits.{Low, High, Settles, surely, possibly, Tallied, addend, Under};
+ghost use Rattle.score.specs.Limits.{Low, High, Settles, surely, possibly, Tallied, withWaiting, addend, Under};
 ghost use Rattle.score.specs.Less.{lessOf};
 
 // A threshold, and the squared distances that it settles without a root: up to `low` they are within
@@ -33,15 +34,23 @@ pub enum Less {
     NotBelow,
 }
 
-// Just below the threshold's square, where the root of that is at most the threshold. Else a NaN:
-// nothing is at most that.
-fn low_limit(thresh: f64) -> f64
+// What is added to a sum of squares by the roots that are within: all but one are added, and for that
+// one, if it waits, the square is kept whose root it is. So two roots are taken together, which takes
+// less time than one after the other.
+struct Sum {
+    total: f64,
+    waits: bool,
+    waiting: f64,
+}
+
+// The limit, where its root is at most the threshold. Else a NaN: nothing is at most that.
+fn low_limit(thresh: f64, limit: f64, root: f64) -> f64
+    requires { ⌜ root ≡ rootOf limit ⌝ }
     ensures { λ r. ⌜ Low thresh r ⌝ }
 {
-    let limit = thresh * thresh * 0.9999999999999991;
     if 0.0 < thresh {
         if 0.0 < limit {
-            if root::sqrt(limit) <= thresh {
+            if root <= thresh {
                 return limit;
             }
         }
@@ -49,15 +58,14 @@ fn low_limit(thresh: f64) -> f64
     0.0 / 0.0
 }
 
-// Just above the threshold's square, where the root of that is above the threshold. Else a NaN: it is
-// at most nothing.
-fn high_limit(thresh: f64) -> f64
+// The limit, where its root is above the threshold. Else a NaN: it is at most nothing.
+fn high_limit(thresh: f64, limit: f64, root: f64) -> f64
+    requires { ⌜ root ≡ rootOf limit ⌝ }
     ensures { λ r. ⌜ High thresh r ⌝ }
 {
-    let limit = thresh * thresh * 1.0000000000000009;
     if 0.0 < thresh {
         if 0.0 < limit {
-            if thresh < root::sqrt(limit) {
+            if thresh < root {
                 return limit;
             }
         }
@@ -65,14 +73,30 @@ fn high_limit(thresh: f64) -> f64
     0.0 / 0.0
 }
 
-// Two roots for a walk over the squares spare one for each that isn't close to the threshold's.
+// Just below the threshold's square and just above it. Two roots for a walk over the squares spare one
+// for each that isn't close to the threshold's.
 fn limits_of(thresh: f64) -> Limits
     ensures { λ r. ⌜ Settles thresh r ⌝ }
 {
+    let low = thresh * thresh * 0.9999999999999991;
+    let high = thresh * thresh * 1.0000000000000009;
+    let roots = root::sqrt_two(low, high);
     Limits {
         thresh,
-        low: low_limit(thresh),
-        high: high_limit(thresh),
+        low: low_limit(thresh, low, roots.first),
+        high: high_limit(thresh, high, roots.second),
+    }
+}
+
+// The lower of the two alone, by one root.
+fn lower_limit_of(thresh: f64) -> Limits
+    ensures { λ r. ⌜ Settles thresh r ⌝ }
+{
+    let low = thresh * thresh * 0.9999999999999991;
+    Limits {
+        thresh,
+        low: low_limit(thresh, low, root::sqrt(low)),
+        high: 0.0 / 0.0,
     }
 }
 
@@ -161,23 +185,56 @@ pub fn count_inliers(thresh: f64, squares: &[f64]) -> usize
     count_by_roots(limits, squares)
 }
 
+// The square of the root of `square` is added, or waits to be.
+fn add_root(s: Sum, square: f64) -> Sum
+    ensures { λ r. ⌜ withWaiting r ≡ withWaiting s ⊕ squareOf (rootOf square) ⌝ }
+{
+    if s.waits {
+        let d = root::sqrt_two(s.waiting, square);
+        return Sum {
+            total: s.total + d.first * d.first + d.second * d.second,
+            waits: false,
+            waiting: 0.0,
+        };
+    }
+    Sum {
+        total: s.total,
+        waits: true,
+        waiting: square,
+    }
+}
+
+// The sum, with the one that waits.
+fn sum_of(s: Sum) -> f64
+    ensures { λ r. ⌜ r ≡ withWaiting s ⌝ }
+{
+    if s.waits {
+        let d = root::sqrt(s.waiting);
+        return s.total + d * d;
+    }
+    s.total
+}
+
 // The sum of the squares of the roots within the threshold, in index order from 0. A root is rounded
 // before it is squared, so the sum is not that of the squares in the list.
 fn sum_squares(thresh: f64, squares: &[f64]) -> f64
     ensures { λ r. ⌜ r ≡ squaresIn thresh (map rootOf (now (squares .entry))) ⌝ }
 {
     let limits = limits_of(thresh);
-    let mut sum = 0.0;
+    let mut sum = Sum {
+        total: 0.0,
+        waits: false,
+        waiting: 0.0,
+    };
     let mut i = 0;
     while i < squares.len() {
         let square = squares[i];
         i += 1;
         if is_close(limits, square) {
-            let d = root::sqrt(square);
-            sum += d * d;
+            sum = add_root(sum, square);
         }
     }
-    sum
+    sum_of(sum)
 }
 
 // The root mean square of the roots within the threshold, by their number; infinite where that is 0.
@@ -229,7 +286,7 @@ pub fn rms_if_less(thresh: f64, squares: &[f64], count: u32, best: f64) -> Less
 {
     if count != 0 {
         let n = count as f64;
-        let least = least_sum(limits_of(thresh), squares, best * best * n);
+        let least = least_sum(lower_limit_of(thresh), squares, best * best * n);
         if best <= root::sqrt(least / n) {
             return Less::NotBelow;
         }

@@ -61,9 +61,11 @@ places : (c : tie.After-sqrt-two Inv-loop μ-loop)
 places c = rw (← c .before .before .before .before .before .before .before .mark-count .ensures) (omega arith)
 
 loop-again : tie.Need-loop-again Inv-loop μ-loop
-loop-again c =
-    (omega arith, rw (c .before .before .sqrt-two .ensures .0, c .before .before .sqrt-two .ensures .1, c .before .before .before .before .squared-apart .ensures, c .before .before .before .squared-apart2 .ensures)
-    (owed-two (away _) _ _ (places (c .before .before)) (c .before .before .before .before .before .before .point-at .ensures) (c .before .before .before .before .before .point-at2 .ensures) (c .before .before .before .before .before .before .before .before .loop .inv .1)))
+loop-again c = (
+  omega arith,
+  rw (c .before .before .sqrt-two .ensures .0, c .before .before .sqrt-two .ensures .1, c .before .before .before .before .squared-apart .ensures, c .before .before .before .squared-apart2 .ensures)
+      (owed-two (away _) _ _ (places (c .before .before)) (c .before .before .before .before .before .before .point-at .ensures) (c .before .before .before .before .before .point-at2 .ensures) (c .before .before .before .before .before .before .before .before .loop .inv .1)),
+)
 
 nearest-u64-to-f64-requires : tie.Need-nearest-u64-to-f64-requires Inv-loop μ-loop
 nearest-u64-to-f64-requires c κs = search needs

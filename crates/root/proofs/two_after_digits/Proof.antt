@@ -34,11 +34,13 @@ loop-less : tie.Need-loop-less Inv-loop μ-loop
 loop-less c = omega arith
 
 loop-again : tie.Need-loop-again Inv-loop μ-loop
-loop-again c =
-    (omega arith,
-    rw add-one
-    (holds-next _ _ _ _ _ _ _ _ (omega arith) (c .before .before .loop .inv .1 .0) (c .next-two .ensures .0),
-    holds-next _ _ _ _ _ _ _ _ (omega arith) (c .before .before .loop .inv .1 .1) (c .next-two .ensures .1)))
+loop-again c = (
+  omega arith,
+  rw add-one (
+    holds-next _ _ _ _ _ _ _ _ (omega arith) (c .before .before .loop .inv .1 .0) (c .next-two .ensures .0),
+    holds-next _ _ _ _ _ _ _ _ (omega arith) (c .before .before .loop .inv .1 .1) (c .next-two .ensures .1),
+  ),
+)
 
 returns : tie.Need-returns Inv-loop μ-loop
 returns c = let e : c .before .loop .i ≡ 54 = omega arith in rw e at (c .before .loop .inv .1)

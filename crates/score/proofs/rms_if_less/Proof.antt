@@ -9,17 +9,17 @@ use Rattle.score.proofs.rms_if_less.Tie as tie
 int-to-float-n : tie.Need-int-to-float-n
 int-to-float-n c = search needs
 
-limits-of-requires : tie.Need-limits-of-requires
-limits-of-requires c κs = search needs
+lower-limit-of-requires : tie.Need-lower-limit-of-requires
+lower-limit-of-requires c κs = search needs
 
 least-sum-requires : tie.Need-least-sum-requires
-least-sum-requires c κs = settled-own (c .limits-of .ensures)
+least-sum-requires c κs = settled-own (c .lower-limit-of .ensures)
 
 sqrt-requires : tie.Need-sqrt-requires
 sqrt-requires c κs = search needs
 
 returns : tie.Need-returns
-returns c = told-by-least _ _ _ _ (omega arith) (c .before .before .before .before .before .if1 .taken) (own-sum _ (c .before .before .before .limits-of .ensures) (c .before .before .least-sum .ensures)) (c .before .sqrt .ensures) (c .if2 .taken)
+returns c = told-by-least _ _ _ _ (omega arith) (c .before .before .before .before .before .if1 .taken) (own-sum _ (c .before .before .before .lower-limit-of .ensures) (c .before .before .least-sum .ensures)) (c .before .sqrt .ensures) (c .if2 .taken)
 
 rms-requires : tie.Need-rms-requires
 rms-requires c κs = search needs
@@ -35,7 +35,7 @@ rms-if-less-spec =
     tie.close
     (tie.spec
     int-to-float-n
-    limits-of-requires
+    lower-limit-of-requires
     least-sum-requires
     sqrt-requires
     returns
