@@ -19,7 +19,7 @@ use Rattle.root.specs.Root.{rootOf}
 use Rattle.numbers.specs.Constants.{zero′, infinity}
 use Rattle.book.specs.Score.{close, countIn, square, squaresIn, rmsOf}
 use Rattle.score.specs.Places.{indicesIn, cramped, indexed, indexCount}
-use Rattle.score.specs.Limits.{Settles, surely, possibly, Tallied, withWaiting}
+use Rattle.score.specs.Limits.{Settles, surely, possibly, Tallied, withWaiting, withinAdded}
 use Rattle.score.specs.declared.Limits.{Limits}
 use Rattle.score.specs.declared.Sum.{Sum}
 
@@ -98,6 +98,14 @@ module _ (thresh : Float) (qs : List Float) where
 
     pub summed-same : b ≡ false → Summed sum (i + 1)
     summed-same e = record { owed = sym (ap (λ y. sumFrom square sum y) (those-no here answer e)) ∙ s .owed }
+
+  pub summed-next : {i : ℕ} → i < length qs → {sum : Float} → Summed sum i → Summed (withinAdded thresh sum (rootOf (getD qs i nan))) (i + 1)
+  unfolding withinAdded
+  summed-next {i} here {sum} s = go (le (rootOf (getD qs i nan)) thresh) refl
+    where
+      go : (b : Bool) → b ≡ le (rootOf (getD qs i nan)) thresh → Summed (cond b (sum ⊕ square (rootOf (getD qs i nan))) sum) (i + 1)
+      go true e = summed-more here e s refl
+      go false e = summed-same here e s refl
 
   -- ---- the places, written into a lent list
 
@@ -190,6 +198,19 @@ module _ (s : Sum) where
   pub waiting-added : (q : Float) {d e : Float} → s .waits ≡ true → (d ≡ rootOf (s .waiting)) × (e ≡ rootOf q) → s .total ⊕ d ⊗ d ⊕ e ⊗ e ≡ withWaiting s ⊕ square (rootOf q)
   unfolding withWaiting square
   waiting-added q w h = rw (w, h .0, h .1)
+
+  -- what becomes of the sum, by what is known of the root
+  pub within-sure : (thresh d : Float) → le d thresh ≡ true → withWaiting s ⊕ square d ≡ withinAdded thresh (withWaiting s) d
+  unfolding withinAdded
+  within-sure thresh d h = rw h
+
+  pub within-not : (thresh d : Float) → le d thresh ≡ false → withWaiting s ≡ withinAdded thresh (withWaiting s) d
+  unfolding withinAdded
+  within-not thresh d h = rw h
+
+  pub within-told : (thresh q : Float) {d sum : Float} → d ≡ rootOf q → sum ≡ withWaiting s → le d thresh ≡ true → sum ⊕ d ⊗ d ≡ withinAdded thresh (withWaiting s) (rootOf q)
+  unfolding square
+  within-told thresh q {d} e f h = ap (λ x. x ⊕ d ⊗ d) f ∙ within-sure thresh d h ∙ ap (withinAdded thresh (withWaiting s)) e
 
   pub waiting-kept : (q : Float) → s .waits ≡ false → s .total ⊕ square (rootOf q) ≡ withWaiting s ⊕ square (rootOf q)
   unfolding withWaiting

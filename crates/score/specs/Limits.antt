@@ -43,6 +43,10 @@ pub record Tallied (l : Limits) (qs : List Float) (sure possible : ℕ) : Type 0
 unfoldable pub withWaiting : Sum → Float
 withWaiting s = cond (s .waits) (s .total ⊕ square (rootOf (s .waiting))) (s .total)
 
+-- a sum, with the square of a distance that is within
+unfoldable pub withinAdded : Float → Float → Float → Float
+withinAdded thresh sum d = cond (le d thresh) (sum ⊕ square d) sum
+
 -- what a distance adds to the sum of squares
 unfoldable pub addend : Float → Float → Float
 addend thresh d = cond (le d thresh) (square d) zero′

@@ -11,7 +11,7 @@ ghost use Rattle.root.specs.Root.{rootOf};
 ghost use Rattle.rule.specs.Arith.{_⊕_};
 ghost use Rattle.book.specs.Score.{countIn, square as squareOf, squaresIn, rmsOf};
 ghost use Rattle.score.specs.Places.{indexCount, indexed};
-ghost use Rattle.score.specs.Limits.{Low, High, Settles, surely, possibly, Tallied, withWaiting, addend, Under};
+ghost use Rattle.score.specs.Limits.{Low, High, Settles, surely, possibly, Tallied, withWaiting, withinAdded, addend, Under};
 ghost use Rattle.score.specs.Less.{lessOf};
 
 // A threshold, and the squared distances that it settles without a root: up to `low` they are within
@@ -215,6 +215,28 @@ fn sum_of(s: Sum) -> f64
     s.total
 }
 
+// The sum, with the square of the root of `square` where that is within the threshold. If it takes the
+// root to tell, that root is the one that is added.
+fn add_within(limits: Limits, s: Sum, square: f64) -> Sum
+    requires { ⌜ Settles (limits .thresh) limits ⌝ }
+    ensures { λ r. ⌜ withWaiting r ≡ withinAdded (limits .thresh) (withWaiting s) (rootOf square) ⌝ }
+{
+    if is_sure(limits, square) {
+        return add_root(s, square);
+    }
+    if is_possible(limits, square) {
+        let d = root::sqrt(square);
+        if d <= limits.thresh {
+            return Sum {
+                total: sum_of(s) + d * d,
+                waits: false,
+                waiting: 0.0,
+            };
+        }
+    }
+    s
+}
+
 // The sum of the squares of the roots within the threshold, in index order from 0. A root is rounded
 // before it is squared, so the sum is not that of the squares in the list.
 fn sum_squares(thresh: f64, squares: &[f64]) -> f64
@@ -228,11 +250,8 @@ fn sum_squares(thresh: f64, squares: &[f64]) -> f64
     };
     let mut i = 0;
     while i < squares.len() {
-        let square = squares[i];
+        sum = add_within(limits, sum, squares[i]);
         i += 1;
-        if is_close(limits, square) {
-            sum = add_root(sum, square);
-        }
     }
     sum_of(sum)
 }
