@@ -1,9 +1,10 @@
 //! The proved root beside the machine's: nanoseconds a root.
 //!
 //! Throughput takes the roots of a slice one by one, none waiting for the one
-//! before. Latency makes each root wait for the one before. The machine's root
-//! is timed as a call, as the proved one is, and inlined, where the compiler
-//! may also take two at a time.
+//! before. Latency makes each root wait for the one before. 'By twos' is
+//! throughput of the proved entry that takes two roots together, still for one
+//! root. The machine's root is timed as a call, as the proved one is, and
+//! inlined, where the compiler may also take two at a time.
 
 use crate::{ROUNDS, median, nanoseconds};
 use oracle::cases::Random;
@@ -26,6 +27,16 @@ fn throughput(numbers: &[f64], root: impl Fn(f64) -> f64) -> u64 {
     let mut all = 0;
     for &a in numbers {
         all ^= root(a).to_bits();
+    }
+    all
+}
+
+/// The root of each number, two numbers a call: the first one's in one pass,
+/// the second one's in the next.
+fn by_twos(numbers: &[f64]) -> u64 {
+    let mut all = 0;
+    for (i, two) in numbers.chunks_exact(2).enumerate() {
+        all ^= proved::sqrt_two(two[0], two[1], i as u32 & 1).to_bits();
     }
     all
 }
@@ -86,6 +97,9 @@ pub fn run() {
         |list| throughput(list, machine_call),
         |list| throughput(list, machine_inlined),
     );
+    let mut times: Vec<f64> = (0..ROUNDS).map(|_| round(&numbers, 100, by_twos)).collect();
+    let two = median(std::mem::take(&mut times));
+    println!("by twos     {two:>8.2}");
     compare(
         "latency",
         &numbers,

@@ -44,6 +44,15 @@ pub extern "C" fn probe_sqrt(a: f64) -> f64
     root::sqrt(a)
 }
 
+// The root of the number at `place`, 0 or 1, of the two, both being taken.
+#[no_mangle]
+pub extern "C" fn probe_sqrt_two(a: f64, b: f64, place: u32) -> f64
+    ensures { λ r. ⌜ r ≡ getD (rootOf a ∷ rootOf b ∷ []) place nan ⌝ }
+{
+    let two = root::sqrt_two(a, b);
+    place_of_two(two.first, two.second, place)
+}
+
 #[no_mangle]
 pub extern "C" fn probe_root_refusal(a: f64) -> u32
     ensures { λ r. ⌜ r ≡ refusalOf (rootAnswer a) ⌝ }

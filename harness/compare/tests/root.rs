@@ -80,6 +80,22 @@ fn roots() {
     println!("{taken} roots, {refused} refused");
 }
 
+/// Beside each number another of the list: a neighbour, and one that is far
+/// off, so that every kind stands beside every kind.
+#[test]
+fn two_roots_together() {
+    let list = numbers();
+    for (i, &a) in list.iter().enumerate() {
+        for b in [list[(i + 1) % list.len()], list[i * 31 % list.len()]] {
+            for (place, number) in [(0, a), (1, b)] {
+                let y = proved::sqrt_two(a, b, place);
+                assert!(same(y, number.sqrt()), "{place} of {a:e} and {b:e}: {y:e}");
+            }
+        }
+    }
+    assert!(proved::sqrt_two(4.0, 9.0, 2).is_nan());
+}
+
 #[test]
 fn roots_are_monotone() {
     let mut list = numbers();

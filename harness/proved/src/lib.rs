@@ -12,6 +12,7 @@ pub mod writing;
 mod c {
     unsafe extern "C" {
         pub safe fn probe_sqrt(a: f64) -> f64;
+        pub safe fn probe_sqrt_two(a: f64, b: f64, place: u32) -> f64;
         pub safe fn probe_root_refusal(a: f64) -> u32;
         pub safe fn probe_quadratic_count(a: f64, b: f64, c: f64) -> u32;
         pub safe fn probe_quadratic_root(a: f64, b: f64, c: f64, place: u32) -> f64;
@@ -83,6 +84,13 @@ macro_rules! with_model {
 #[inline]
 pub fn sqrt(a: f64) -> f64 {
     c::probe_sqrt(a)
+}
+
+/// Of two roots that are taken together, the one at place 0 or 1; a NaN past
+/// them.
+#[inline]
+pub fn sqrt_two(a: f64, b: f64, place: u32) -> f64 {
+    c::probe_sqrt_two(a, b, place)
 }
 
 /// 0, or 15 for a NaN or a negative number.
