@@ -3,12 +3,11 @@
 //!
 //! The proved side takes two for the limits of the threshold at each count,
 //! rms and list of indices, and one for each mark between them. The least that
-//! an rms can be takes one, and one for the lower limit: the compiler leaves
-//! the upper one out, which isn't looked at. An rms that is worked out takes
-//! one for each mark that is within by the limit, and one for the mean; where a
-//! mark between them is within, its root is there already. The Rust takes one
-//! for each mark of each model counted, and one for the rms of each trial
-//! scored.
+//! an rms can be takes one, and one for the lower limit. An rms that is worked
+//! out takes one for each mark that is within by the limit, and one for the
+//! mean; where a mark between them is within, its root is there already. The
+//! Rust takes one for each mark of each model counted, and one for the rms of
+//! each trial scored.
 
 use oracle::Model;
 use oracle::pick_cases::Case;

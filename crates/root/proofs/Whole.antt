@@ -4,10 +4,10 @@
 use mathlib.Core.Path.{_≡_, refl, sym, ap, _∙_}
 use mathlib.Core.Logic.{⊎-elim}
 use Prim.Native.Nat.{ℕ, zero, suc, _+_, _-_, _*_, _/_, _%_, _^_, _≤_, _<_}
-use native.Mathlib.Nat.{lt-of-lt-of-le, lt-of-mul-lt-mul-right, mul-lt-mul-of-pos-right, mod-lt, mul-add, add-mul, mul-one, one-mul, mul-assoc, mul-comm, mul-right-comm, mul-mul-mul-comm, mul-le-mul, mul-le-mul-right, one-le-pow, pow-suc, div-div-eq-div-mul, div-eq-of-lt, div-one}
+use native.Mathlib.Nat.{lt-of-mul-lt-mul-right, le-of-mul-le-mul-right, mul-lt-mul-of-pos-right, mod-lt, mul-add, add-mul, mul-one, one-mul, mul-assoc, mul-comm, mul-right-comm, mul-mul-mul-comm, mul-le-mul-right, one-le-pow, pow-suc, div-div-eq-div-mul, div-eq-of-lt, div-eq-of-lt-le, div-eq-of-eq-mul-left, div-one}
 use native.Mathlib.Omega.{arith}
 use borrow.Author.Tests.{le-leb, lt-leb}
-use lib.Dec.{leb, lit<}
+use lib.Dec.{lit<}
 use lib.Pow.{pow-pos, pow-add}
 use lib.Arith.{mod-mul}
 use Rattle.rule.proofs.Tests.{le-or-gt}
@@ -266,6 +266,49 @@ left-room scaled i root left unit s h a =
     let b : 2 * p .root * (w * w) ≡ 2 * (p .root * (w * w)) = mul-assoc 2 (p .root) (w * w) in
     let c : left < 4 * (p .root * w) + w * 2 = lt-of-mul-lt-mul-right w (omega arith) in
     omega arith
+
+-- ---- the order's sentence, of what the loop holds
+
+rem-held : (scaled i root left unit : ℕ) → i ≤ 54 → Holds scaled i root left unit → left / unit ≡ afterDigits scaled i .rem
+rem-held scaled i root left unit h a = div-eq-of-lt-le unit least most
+  where
+    w : ℕ
+    w = 2 ^ (54 - i)
+
+    rem : ℕ
+    rem = afterDigits scaled i .rem
+
+    u : unit ≡ w * 2
+    u = a .halved ∙ ap (λ (j : ℕ). 2 ^ j) (let y : 55 - i ≡ suc (54 - i) = omega arith in y) ∙ pow-suc 2 (54 - i)
+
+    l : left * w ≡ 2 * (rem * (w * w) + scaled % 4 ^ (54 - i))
+    l = rw (← four-power (54 - i)) (a .remains)
+
+    t : scaled % 4 ^ (54 - i) < w * w
+    t = rw (← four-power (54 - i)) (mod-lt scaled (four-pos (54 - i)))
+
+    -- k units, times w
+    units : (k : ℕ) → k * unit * w ≡ 2 * (k * (w * w))
+    units k = ap (λ (x : ℕ). k * x * w) u ∙ mul-assoc k (w * 2) w ∙ ap (λ (x : ℕ). k * x) (mul-right-comm w 2 w) ∙ sym (mul-assoc k (w * w) 2) ∙ mul-comm (k * (w * w)) 2
+
+    least : rem * unit ≤ left
+    least = le-of-mul-le-mul-right (let e = units rem in let f = l in omega arith) (pow-pos (54 - i))
+
+    most : left < (rem + 1) * unit
+    most =
+        lt-of-mul-lt-mul-right w
+        (let e = units (rem + 1) in
+        let f = l in
+        let g : (rem + 1) * (w * w) ≡ rem * (w * w) + 1 * (w * w) = add-mul rem 1 (w * w) in
+        let o : 1 * (w * w) ≡ w * w = one-mul (w * w) in
+        let s = t in
+        omega arith)
+
+root-held : (scaled i root left unit : ℕ) → Holds scaled i root left unit → root / unit ≡ afterDigits scaled i .root
+root-held scaled i root left unit a = div-eq-of-eq-mul-left (rw (a .halved) (pow-pos (55 - i))) (a .in-units)
+
+pub carried : (scaled i root left unit : ℕ) → scaled < 4 ^ 54 → i ≤ 54 → Holds scaled i root left unit → Extracted (taken scaled i) (root / unit) (left / unit)
+carried scaled i root left unit s h a = rw (root-held scaled i root left unit a, rem-held scaled i root left unit h a) (after-each-digit scaled i s h)
 
 -- before each of the 54 digits the state is within what `next_digit` asks
 pub ready : (scaled i root left unit : ℕ) → scaled < 4 ^ 54 → i < 54 → Holds scaled i root left unit → Ready root left unit

@@ -3,7 +3,7 @@
 -- 'The root is to come digit by digit, multiplying in that loop by constants alone and carrying a remainder. After each digit the remainder is shown
 -- to be the part of the scaled number taken so far less the square of the root so far, and at most twice that root.' The digits are those of
 -- `afterDigits`; what is shown is `Extracted`, by the theorem `after-each-digit` in proofs/Whole.antt; and that the loop carries just these roots and
--- remainders is `Holds`, the promise of `after_digits`, for each number of digits.
+-- remainders is `Holds`, the promise of `after_digits`, for each number of digits. `carried` says the sentence of what the loop holds.
 use mathlib.Core.Path.{_≡_}
 use mathlib.Core.Bool.{cond}
 use Prim.Native.Nat.{ℕ, zero, suc, _+_, _*_, _/_, _-_, _%_, _^_, _≤_, _<_}
@@ -40,8 +40,9 @@ wholeRoot scaled = afterDigits scaled 54 .root
 
 -- ---- the loop
 
--- What the loop holds after i digits: the root in units; what is left, which is the remainder and behind it the scaled number's digits still to come,
--- moved down by half as many places; and the unit, which halves with each digit.
+-- What the loop holds after i digits, in place: the root times the unit; what is left, that is the remainder times the unit and behind it, on the same
+-- scale, the scaled number's digits still to come; and the unit, which halves with each digit. Said without a quotient: what is left times 2 ^ (54 - i)
+-- is twice the remainder and those digits, as they stand in the scaled number.
 pub record Holds (scaled i root left unit : ℕ) : Type 0 where
   pub in-units : root ≡ afterDigits scaled i .root * unit
   pub remains : left * 2 ^ (54 - i) ≡ 2 * (afterDigits scaled i .rem * 4 ^ (54 - i) + scaled % 4 ^ (54 - i))

@@ -8,9 +8,8 @@ use borrow.Author.Tests.{lt-ltb, le-ltb, ne-eqb, not-false}
 use lib.Dec.{T, eqb, eqb·suc-zero}
 use lib.IntN.{ℤ, pos}
 use lib.Ieee.{Float, nan, inf, fin, binary64, up, down, ofBits, fits, isNan, lt, le, eq, div, below, level}
-use lib.Ieee.Fits.{mul-fits}
 use lib.Ieee.Bits.{is-true, ofBits-fits}
-use Rattle.rule.specs.Arith.{clear, _⊗_, _⊘_}
+use Rattle.rule.specs.Arith.{clear, _⊘_}
 use Rattle.rule.proofs.Tests.{clash, is-test, or-true}
 use Rattle.rule.proofs.Zero.{size-pos, no-size}
 use Rattle.root.specs.Root.{rootOf}

@@ -1,6 +1,6 @@
 -- `root::after_digits` meets its contract. The loop's invariant: after i digits the state is what `Holds` says. The measure is the digits left. Assumes nothing.
 use mathlib.Core.Path.{_≡_}
-use Prim.Native.Nat.{suc, _+_, _-_, _*_, _≤_, _^_, _<_}
+use Prim.Native.Nat.{_-_, _*_, _≤_, _^_}
 use native.Mathlib.Numerals.{add-one}
 use native.Mathlib.Omega.{arith}
 use Rattle.root.specs.Digits.{Holds}
