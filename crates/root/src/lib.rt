@@ -1,7 +1,9 @@
 // The square root of a double (document 01, 'Root'), correctly rounded, without the machine's own:
-// 54 binary digits of a whole root, a remainder carried from digit to digit.
+// 54 binary digits of a whole root, one by one, a remainder carried from digit to digit and nothing
+// squared (document 02, order 4).
 //
-// `sqrt` is for callers in other crates, total as Rust's is. `root` is the entry that refuses.
+// `sqrt` is for callers in other crates, total as Rust's is, and `sqrt_two` for those that have two
+// numbers. `root` is the entry that refuses.
 ghost use mathlib.Core.Path.{_≡_};
 ghost use mathlib.Core.Bool.{true};
 ghost use lib.Dec.{T};
@@ -56,6 +58,9 @@ struct TwoPatterns {
 // 2 ^ 52, the weight of a double's leading digit.
 const HIDDEN: u64 = 4503599627370496;
 
+// 2 ^ 55, the unit before the first of 54 digits. After the last it is 2.
+const UNIT: u64 = 36028797018963968;
+
 // A number by the digit, which is 1 where the trial is not above what is left. A function of its own,
 // so that it compiles without a branch.
 fn chosen(left: u64, trial: u64, none: u64, one: u64) -> u64
@@ -88,7 +93,7 @@ fn after_digits(n: u64, count: u32) -> Digits
     let mut s = Digits {
         root: 0,
         left: n * 2,
-        unit: 36028797018963968,
+        unit: UNIT,
     };
     let mut i: u32 = 0;
     while i < count {
@@ -212,7 +217,7 @@ fn two_after_digits(n: u64, m: u64) -> TwoDigits
         left: n * 2,
         root_2: 0,
         left_2: m * 2,
-        unit: 36028797018963968,
+        unit: UNIT,
     };
     let mut i: u32 = 0;
     while i < 54 {
