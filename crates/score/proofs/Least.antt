@@ -48,7 +48,7 @@ adds-clear thresh d = go (le d thresh) refl
     go true h = square-clear d (compared d thresh h)
     go false h = zero-clear
 
-pub adds-least : {l : Limits} (q : Float) → Settles (l .thresh) l → T (fits binary64 q) → lt zero′ q ≡ true → le q (l .low) ≡ true → Under (q ⊗ shrink) (addend (l .thresh) (rootOf q))
+adds-least : {l : Limits} (q : Float) → Settles (l .thresh) l → T (fits binary64 q) → lt zero′ q ≡ true → le q (l .low) ≡ true → Under (q ⊗ shrink) (addend (l .thresh) (rootOf q))
 unfolding square
 adds-least {l} q settled double above low =
     let c = above-clear q above in
@@ -57,6 +57,14 @@ adds-least {l} q settled double above low =
 
 pub adds-nothing : (thresh d : Float) → Under zero′ (addend thresh d)
 adds-nothing thresh d = record { sign = zero-clear; under = zero-least (addend thresh d) (adds-clear thresh d) }
+
+pub adds-up-to : {l : Limits} (q : Float) {x : Float} → Settles (l .thresh) l → T (fits binary64 q) → lt zero′ q ≡ true → x ≡ cond (le q (l .low)) (q ⊗ shrink) zero′
+    → Under x (addend (l .thresh) (rootOf q))
+adds-up-to {l} q {x} s f h e = subst (λ y. Under y (addend (l .thresh) (rootOf q))) (sym e) (go (le q (l .low)) refl)
+  where
+    go : (b : Bool) → le q (l .low) ≡ b → Under (cond b (q ⊗ shrink) zero′) (addend (l .thresh) (rootOf q))
+    go true k = adds-least q s f h k
+    go false k = adds-nothing (l .thresh) (rootOf q)
 
 -- ---- the sum
 

@@ -9,6 +9,7 @@ ghost use Prim.Native.Nat.{_≤_};
 ghost use lib.Ieee.{le};
 ghost use Rattle.root.specs.Root.{rootOf};
 ghost use Rattle.rule.specs.Arith.{_⊕_};
+ghost use Rattle.numbers.specs.Constants.{zero′};
 ghost use Rattle.book.specs.Score.{countIn, square as squareOf, squaresIn, rmsOf};
 ghost use Rattle.score.specs.Places.{indexCount, indexed};
 ghost use Rattle.score.specs.Limits.{Low, High, Settles, surely, possibly, Tallied, withWaiting, withinAdded, addend, Under};
@@ -266,19 +267,21 @@ pub fn rms(thresh: f64, squares: &[f64], count: u32) -> f64
     root::sqrt(sum_squares(thresh, squares) / count as f64)
 }
 
+// `x` for a square up to the limit, else 0. A function of its own, so that it compiles without a jump.
+fn up_to(limit: f64, square: f64, x: f64) -> f64
+    ensures { λ r. ⌜ r ≡ cond (le square limit) x zero′ ⌝ }
+{
+    if square <= limit { x } else { 0.0 }
+}
+
 // No more than what a square adds to the sum, and hardly less: the square of a double's root, rounded
 // twice, is not below the double less its 2^52nd part.
 fn least_addend(limits: Limits, square: f64) -> f64
     requires { ⌜ Settles (limits .thresh) limits ⌝ }
     ensures { λ r. ⌜ Under r (addend (limits .thresh) (rootOf square)) ⌝ }
 {
-    let least = square * 0.9999999999999998;
-    if 0.0 < square {
-        if square <= limits.low {
-            return least;
-        }
-    }
-    0.0
+    let least = up_to(limits.low, square, square * 0.9999999999999998);
+    if 0.0 < square { least } else { 0.0 }
 }
 
 // No more than the sum of the squares, and hardly less unless it is `enough`. No root is taken.
