@@ -223,6 +223,44 @@ pub ended : (scaled root left unit : ℕ) → Holds scaled 54 root left unit →
 unfolding wholeRoot
 ended scaled root left unit a = let r : root ≡ afterDigits scaled 54 .root * 2 = a .in-units ∙ ap (λ (j : ℕ). afterDigits scaled 54 .root * j) (a .halved) in omega arith
 
+-- ---- the order's sentence, of what the loop holds
+
+-- what is left is the remainder in units, and less than a unit more
+module _ (scaled i root left unit : ℕ) (h : i ≤ 54) (a : Holds scaled i root left unit) where
+  abbrev w : ℕ
+  w = 2 ^ (54 - i)
+
+  abbrev rem : ℕ
+  rem = afterDigits scaled i .rem
+
+  units : (k : ℕ) → k * unit * w ≡ 2 * (k * (w * w))
+  units k =
+      let u : unit ≡ w * 2 = a .halved ∙ ap (λ (j : ℕ). 2 ^ j) (let y : 55 - i ≡ suc (54 - i) = omega arith in y) ∙ pow-suc 2 (54 - i) in
+      ap (λ (x : ℕ). k * x * w) u ∙ mul-assoc k (w * 2) w ∙ ap (λ (x : ℕ). k * x) (mul-right-comm w 2 w) ∙ sym (mul-assoc k (w * w) 2) ∙ mul-comm (k * (w * w)) 2
+
+  left-units : left * w ≡ 2 * (rem * (w * w) + scaled % 4 ^ (54 - i))
+  left-units = rw (← four-power (54 - i)) (a .remains)
+
+  rem-least : rem * unit ≤ left
+  rem-least = le-of-mul-le-mul-right (let e = units rem in let l = left-units in omega arith) (pow-pos (54 - i))
+
+  rem-most : left < (rem + 1) * unit
+  rem-most =
+      let e = units (rem + 1) in
+      let l = left-units in
+      let t : scaled % 4 ^ (54 - i) < w * w = rw (← four-power (54 - i)) (mod-lt scaled (four-pos (54 - i))) in
+      let g : (rem + 1) * (w * w) ≡ rem * (w * w) + 1 * (w * w) = add-mul rem 1 (w * w) in
+      let o : 1 * (w * w) ≡ w * w = one-mul (w * w) in
+      lt-of-mul-lt-mul-right w (omega arith)
+
+root-held : (scaled i root left unit : ℕ) → Holds scaled i root left unit → root / unit ≡ afterDigits scaled i .root
+root-held scaled i root left unit a = div-eq-of-eq-mul-left (rw (a .halved) (pow-pos (55 - i))) (a .in-units)
+
+pub carried : (scaled i root left unit : ℕ) → scaled < 4 ^ 54 → i ≤ 54 → Holds scaled i root left unit → Extracted (taken scaled i) (root / unit) (left / unit)
+carried scaled i root left unit s h a =
+    let r : left / unit ≡ afterDigits scaled i .rem = div-eq-of-lt-le unit (rem-least scaled i root left unit h a) (rem-most scaled i root left unit h a) in
+    rw (root-held scaled i root left unit a, r) (after-each-digit scaled i s h)
+
 -- ---- nothing overflows
 
 one-or-none : (p : Partial) (two : ℕ) → oneMore p two .root ≤ 2 * p .root + 1
@@ -248,67 +286,17 @@ root-room scaled i root left unit h a =
     let u = a .in-units in
     omega arith
 
--- what is left is below 2 * root + 1 units, doubled: the remainder is at most twice the root
+-- the remainder is at most twice the root
 left-room : (scaled i root left unit : ℕ) → scaled < 4 ^ 54 → i ≤ 54 → Holds scaled i root left unit → left < 2 * root + unit
 left-room scaled i root left unit s h a =
-    let k = 54 - i in
-    let p = afterDigits scaled i in
-    let w = 2 ^ k in
-    let y : 55 - i ≡ suc k = omega arith in
-    let u : unit ≡ w * 2 = a .halved ∙ ap (λ (j : ℕ). 2 ^ j) y ∙ pow-suc 2 k in
-    let l : left * w ≡ 2 * (p .rem * (w * w) + scaled % 4 ^ k) = rw (← four-power k) (a .remains) in
-    let t : scaled % 4 ^ k < w * w = rw (← four-power k) (mod-lt scaled (four-pos k)) in
-    let m : p .rem * (w * w) ≤ 2 * p .root * (w * w) = mul-le-mul-right (w * w) (after-each-digit scaled i s h .small) in
-    let r : root ≡ p .root * w * 2 = a .in-units ∙ ap (λ (j : ℕ). p .root * j) u ∙ sym (mul-assoc (p .root) w 2) in
-    let e : (4 * (p .root * w) + w * 2) * w ≡ 4 * (p .root * w) * w + w * 2 * w = add-mul (4 * (p .root * w)) (w * 2) w in
-    let f : 4 * (p .root * w) * w ≡ 4 * (p .root * (w * w)) = mul-assoc 4 (p .root * w) w ∙ ap (λ (x : ℕ). 4 * x) (mul-assoc (p .root) w w) in
-    let g : w * 2 * w ≡ w * w * 2 = mul-right-comm w 2 w in
-    let b : 2 * p .root * (w * w) ≡ 2 * (p .root * (w * w)) = mul-assoc 2 (p .root) (w * w) in
-    let c : left < 4 * (p .root * w) + w * 2 = lt-of-mul-lt-mul-right w (omega arith) in
+    let r = afterDigits scaled i .root in
+    let m = rem-most scaled i root left unit h a in
+    let l : (afterDigits scaled i .rem + 1) * unit ≤ (2 * r + 1) * unit = mul-le-mul-right unit (let k = after-each-digit scaled i s h .small in omega arith) in
+    let e : (2 * r + 1) * unit ≡ 2 * r * unit + 1 * unit = add-mul (2 * r) 1 unit in
+    let f : 2 * r * unit ≡ 2 * (r * unit) = mul-assoc 2 r unit in
+    let o : 1 * unit ≡ unit = one-mul unit in
+    let u = a .in-units in
     omega arith
-
--- ---- the order's sentence, of what the loop holds
-
-rem-held : (scaled i root left unit : ℕ) → i ≤ 54 → Holds scaled i root left unit → left / unit ≡ afterDigits scaled i .rem
-rem-held scaled i root left unit h a = div-eq-of-lt-le unit least most
-  where
-    w : ℕ
-    w = 2 ^ (54 - i)
-
-    rem : ℕ
-    rem = afterDigits scaled i .rem
-
-    u : unit ≡ w * 2
-    u = a .halved ∙ ap (λ (j : ℕ). 2 ^ j) (let y : 55 - i ≡ suc (54 - i) = omega arith in y) ∙ pow-suc 2 (54 - i)
-
-    l : left * w ≡ 2 * (rem * (w * w) + scaled % 4 ^ (54 - i))
-    l = rw (← four-power (54 - i)) (a .remains)
-
-    t : scaled % 4 ^ (54 - i) < w * w
-    t = rw (← four-power (54 - i)) (mod-lt scaled (four-pos (54 - i)))
-
-    -- k units, times w
-    units : (k : ℕ) → k * unit * w ≡ 2 * (k * (w * w))
-    units k = ap (λ (x : ℕ). k * x * w) u ∙ mul-assoc k (w * 2) w ∙ ap (λ (x : ℕ). k * x) (mul-right-comm w 2 w) ∙ sym (mul-assoc k (w * w) 2) ∙ mul-comm (k * (w * w)) 2
-
-    least : rem * unit ≤ left
-    least = le-of-mul-le-mul-right (let e = units rem in let f = l in omega arith) (pow-pos (54 - i))
-
-    most : left < (rem + 1) * unit
-    most =
-        lt-of-mul-lt-mul-right w
-        (let e = units (rem + 1) in
-        let f = l in
-        let g : (rem + 1) * (w * w) ≡ rem * (w * w) + 1 * (w * w) = add-mul rem 1 (w * w) in
-        let o : 1 * (w * w) ≡ w * w = one-mul (w * w) in
-        let s = t in
-        omega arith)
-
-root-held : (scaled i root left unit : ℕ) → Holds scaled i root left unit → root / unit ≡ afterDigits scaled i .root
-root-held scaled i root left unit a = div-eq-of-eq-mul-left (rw (a .halved) (pow-pos (55 - i))) (a .in-units)
-
-pub carried : (scaled i root left unit : ℕ) → scaled < 4 ^ 54 → i ≤ 54 → Holds scaled i root left unit → Extracted (taken scaled i) (root / unit) (left / unit)
-carried scaled i root left unit s h a = rw (root-held scaled i root left unit a, rem-held scaled i root left unit h a) (after-each-digit scaled i s h)
 
 -- before each of the 54 digits the state is within what `next_digit` asks
 pub ready : (scaled i root left unit : ℕ) → scaled < 4 ^ 54 → i < 54 → Holds scaled i root left unit → Ready root left unit

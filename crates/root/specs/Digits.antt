@@ -31,10 +31,12 @@ oneMore p two =
     let one = leb more here in
     record { root = 2 * p .root + cond one 1 0; rem = here - cond one more 0 }
 
+-- What there is after i digits.
 unfoldable pub afterDigits : ℕ → ℕ → Partial
 afterDigits scaled zero = record { root = 0; rem = 0 }
 afterDigits scaled (suc i) = oneMore (afterDigits scaled i) (taken scaled (suc i) % 4)
 
+-- The whole root of a number below 4 ^ 54.
 unfoldable pub wholeRoot : ℕ → ℕ
 wholeRoot scaled = afterDigits scaled 54 .root
 
