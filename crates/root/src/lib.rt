@@ -70,7 +70,7 @@ fn chosen(left: u64, trial: u64, none: u64, one: u64) -> u64
 }
 
 // One digit of the root. Where it is 1, twice the trial is taken off what is left, doubled: that is
-// the old root and the new one together.
+// the old root and the new one together. (Written as twice the trial, it compiles to a jump.)
 fn next_digit(d: Digits) -> Digits
     requires { ⌜ Ready (d .root) (d .left) (d .unit) ⌝ }
     ensures { λ r. ⌜ NextDigit (d .root) (d .left) (d .unit) (r .root) (r .left) (r .unit) ⌝ }
