@@ -1,5 +1,7 @@
 // The number leaves of document 01 that need no marks, over the root: magnitudes and finiteness, the
 // quadratic (`solve_quadratic_real`) and the rank test (`dlt_rank_ok`); and the row ratio of document 02.
+#![tactic(auto)]
+
 mod finite;
 mod quadratic;
 mod rank;

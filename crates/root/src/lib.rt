@@ -4,6 +4,8 @@
 //
 // `sqrt` is for callers in other crates, total as Rust's is, and `sqrt_two` for those that have two
 // numbers. `root` is the entry that refuses.
+#![tactic(auto)]
+
 ghost use Rattle.std.specs.Prelude.{◌≡◌, true, T, ◌+◌, ◌*◌, ◌≤◌, ◌<◌, ◌^◌};
 ghost use Rattle.std.specs.Float.Ieee.Positive.{positive};
 ghost use Rattle.root.specs.Digits.{Chosen, Ready, NextDigit, Holds, whole_root};

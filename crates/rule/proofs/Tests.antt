@@ -44,8 +44,8 @@ pub clash : {A : Type 0} {b : Bool} → b ≡ true → b ≡ false → A
 clash p q = absurd (true≢false (sym p ∙ q))
 
 -- the flag r of a test b, in a branch on its negation `!r`
-pub failed : {r b : Bool} → r ≡ b → not r ≡ true → b ≡ false
-failed {r} e h = sym e ∙ not-true r h
+pub failed : {r b : Bool} → r ≡ b → r ≡ false → b ≡ false
+failed e h = sym e ∙ h
 
-pub held : {r b : Bool} → r ≡ b → not r ≡ false → b ≡ true
-held {r} e h = sym e ∙ not-false r h
+pub held : {r b : Bool} → r ≡ b → r ≡ true → b ≡ true
+held e h = sym e ∙ h

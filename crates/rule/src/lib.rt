@@ -1,5 +1,6 @@
 // The refusals of documents 01 and 02 by name: every entry that turns a call down answers one of these
 // numbers. `specs/Refusal.antt` has the same names for contracts, and what each of them means.
+#![tactic(auto)]
 
 pub const RECORD: u32 = 1;
 
