@@ -1,5 +1,7 @@
 // The book's rules by numbers (document 01, 'Picking rule'), for the state of any family: whether it
 // takes no more trials, the bound after a scored trial, and whether that trial wins over the winner.
+#![tactic(auto)]
+
 ghost use Rattle.std.specs.Prelude.{◌≡◌};
 ghost use Rattle.book.specs.Book.{raised, lowered, bound_after, is_better};
 ghost use Rattle.book.specs.Calls.{closed_at};

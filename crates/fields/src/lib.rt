@@ -1,5 +1,7 @@
 // Fields of files and records (document 01: 'Numbers in files are little-endian'): read from and
 // written to lists of bytes, each at its own multiple of its width.
+#![tactic(auto)]
+
 ghost use Rattle.std.specs.Prelude.{◌≡◌, ◌<◌, min};
 ghost use Rattle.std.specs.Float.{binary64};
 ghost use Rattle.std.specs.Float.Ieee.{of_bits, to_bits};
