@@ -14,7 +14,7 @@ use records::{RansacOptions, Recorded, Refitted};
 use sheet::Model;
 
 // The model that stands, its own count and root mean square, and the stop entry of the count.
-#[derive(Drop)]
+#[derive(Clone, Copy)]
 pub struct Standing {
     pub model: Model,
     pub count: u32,
@@ -23,7 +23,7 @@ pub struct Standing {
 }
 
 // The number of the refusal, no fit, too few marks and how many, or scored.
-#[derive(Drop)]
+#[derive(Clone, Copy)]
 pub enum Verdict {
     Refused(u32),
     Empty,
@@ -32,21 +32,21 @@ pub enum Verdict {
 }
 
 // What `judge` answers: the verdict, and how many marks are beyond under the fit.
-#[derive(Drop)]
+#[derive(Clone, Copy)]
 pub struct Judgement {
     pub verdict: Verdict,
     pub beyond: u32,
 }
 
 // The same without the root mean square, which takes roots and isn't always asked for.
-#[derive(Drop)]
+#[derive(Clone, Copy)]
 pub struct Support {
     pub model: Model,
     pub count: u32,
     pub stop: u32,
 }
 
-#[derive(Drop)]
+#[derive(Clone, Copy)]
 pub enum Finding {
     Refused(u32),
     Empty,
@@ -55,14 +55,14 @@ pub enum Finding {
 }
 
 // What `count_support` answers: the finding, and how many marks are beyond under the fit.
-#[derive(Drop)]
+#[derive(Clone, Copy)]
 pub struct Found {
     pub finding: Finding,
     pub beyond: u32,
 }
 
 // How many marks are within the threshold under a model, and how many are beyond.
-#[derive(Drop)]
+#[derive(Clone, Copy)]
 struct Counted {
     within: usize,
     beyond: u32,

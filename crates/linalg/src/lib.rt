@@ -1,5 +1,7 @@
 // Hartley normalising of one side's points (document 01, 'Normalising'; `normalize_points_2d` of
 // linalg.rs): the centroid goes to the origin and the mean distance from it to the root of 2.
+#![tactic(auto)]
+
 ghost use Rattle.std.specs.Prelude.{◌≡◌, ◌*◌, ◌≤◌, length};
 ghost use Rattle.sheet.specs.Marks.{points as points_of, marks_of};
 ghost use Rattle.linalg.specs.Normalize.{centroid_of, mean_distance, change_of, normalized_by, pair_of, matrix_of, no_matrix, normalized_list, Normalizing};
@@ -7,14 +9,14 @@ ghost use Rattle.linalg.specs.Normalize.{centroid_of, mean_distance, change_of, 
 use sheet::{Point, Side};
 
 // A row of a 3 by 3 matrix.
-#[derive(Drop)]
+#[derive(Clone, Copy)]
 pub struct Row {
     pub cells: [f64; 3],
 }
 
 // The change to normalised coordinates: subtract the centre, multiply by the scale. `flat` says that
 // the points have no spread, and then the rest says nothing.
-#[derive(Drop)]
+#[derive(Clone, Copy)]
 pub struct Change {
     pub flat: bool,
     pub centre: Point,
@@ -23,7 +25,7 @@ pub struct Change {
 
 // What `normalize_points_2d` answers: 0 and the matrix of the change, or the number of the refusal
 // and zeros.
-#[derive(Drop)]
+#[derive(Clone, Copy)]
 pub struct Normalized {
     pub refusal: u32,
     pub matrix: [Row; 3],

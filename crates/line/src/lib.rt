@@ -1,5 +1,7 @@
 // Whether one side's points lie on a line (document 01, 'Collinear'; `points_are_collinear` of
 // homography.rs).
+#![tactic(auto)]
+
 ghost use Rattle.std.specs.Prelude.{◌≡◌, drop};
 ghost use Rattle.rule.specs.Lists.{every};
 ghost use Rattle.sheet.specs.Marks.{points};
@@ -8,7 +10,7 @@ ghost use Rattle.line.specs.Collinear.{apart, near_count, cross_of, on_baseline,
 use sheet::{Point, Side};
 
 // What `points_are_collinear` answers: yes, no, or the number of the refusal.
-#[derive(Drop)]
+#[derive(Clone, Copy)]
 pub enum Collinear {
     Yes,
     No,

@@ -2,6 +2,8 @@
 // the square of each mark's distance, in a list that is lent, and how many marks are beyond. It is all
 // that scoring sees of the model, the mark and the distance. No root is taken here, and there is no
 // threshold.
+#![tactic(auto)]
+
 ghost use Rattle.std.specs.Prelude.{◌≡◌, cond, not, ◌≤◌};
 ghost use Rattle.rule.specs.Lists.{filled};
 ghost use Rattle.sheet.specs.Distance.{beyond_under};
@@ -10,7 +12,7 @@ ghost use Rattle.measure.specs.Distances.{squared_of, squares_of, beyond_found};
 use sheet::{Mark, Model, Side};
 
 // The square of a mark's distance, infinite where the mark is beyond, and whether it is not.
-#[derive(Drop)]
+#[derive(Clone, Copy)]
 struct Squared {
     square: f64,
     ahead: bool,

@@ -7,7 +7,7 @@ ghost use Rattle.numbers.specs.Quadratic.{counts0, linear, ascending, curved, qu
 use crate::finite::{abs, within};
 
 // What `solve_quadratic_real` answers: no root, one, two ascending, or the number of the refusal.
-#[derive(Drop)]
+#[derive(Clone, Copy)]
 pub enum Quadratic {
     NoRoot,
     One(f64),

@@ -14,7 +14,7 @@ use judge::{Finding, Support};
 use score::Less;
 
 // What `advance` answers: the next state, or the number of the refusal.
-#[derive(Drop)]
+#[derive(Clone, Copy)]
 pub enum Next {
     Read(State),
     Refused(u32),

@@ -8,7 +8,7 @@ ghost use Rattle.pick.specs.Indices.{marks_order, under_answer, under_after, ind
 use crate::run_state::{Best, State, Winner};
 
 // What `winner_indices` answers: how many indices it wrote, or the number of the refusal.
-#[derive(Drop)]
+#[derive(Clone, Copy)]
 pub enum Indexed {
     Written(usize),
     Refused(u32),

@@ -8,7 +8,7 @@ use crate::run_state::{Best, State};
 use records::{OptionsRead, RansacOptions};
 
 // What an opening answers: the state of the run, or the number of the refusal.
-#[derive(Drop)]
+#[derive(Clone, Copy)]
 pub enum Opened {
     Open(State),
     Refused(u32),

@@ -4,7 +4,7 @@ use sheet::Model;
 
 // The standing model of the best scored trial so far, its own count and root mean square, and the
 // trial's number from 1.
-#[derive(Drop)]
+#[derive(Clone, Copy)]
 pub struct Winner {
     pub model: Model,
     pub count: u32,
@@ -12,13 +12,13 @@ pub struct Winner {
     pub number: u32,
 }
 
-#[derive(Drop)]
+#[derive(Clone, Copy)]
 pub enum Best {
     Nothing,
     Held(Winner),
 }
 
-#[derive(Drop)]
+#[derive(Clone, Copy)]
 pub struct State {
     pub options: RansacOptions,
     pub n: usize,
@@ -33,7 +33,7 @@ pub struct State {
 
 // What became of a trial: a refusal's number; no fit; too few marks, and how many; held or won, with
 // count and root mean square.
-#[derive(Drop)]
+#[derive(Clone, Copy)]
 pub enum Outcome {
     Refused(u32),
     Empty,
@@ -43,7 +43,7 @@ pub enum Outcome {
 }
 
 // What the book makes of a judged trial: the new state and the outcome.
-#[derive(Drop)]
+#[derive(Clone, Copy)]
 pub(crate) struct Booked {
     pub state: State,
     pub outcome: Outcome,
@@ -51,7 +51,7 @@ pub(crate) struct Booked {
 
 // A trial's answer: the new state, which is the old one where it was refused, the outcome, and how many
 // marks are beyond under the fit: 0 without one, and where it was refused.
-#[derive(Drop)]
+#[derive(Clone, Copy)]
 pub struct Tried {
     pub state: State,
     pub outcome: Outcome,

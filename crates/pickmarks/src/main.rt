@@ -9,7 +9,7 @@ use pick::{Opened, Outcome, State};
 
 // What one turn of the trials gives: the state after a trial; nothing left to read; a refusal, whose
 // line is printed.
-#[derive(Drop)]
+#[derive(Clone, Copy)]
 enum Turn {
     More(State),
     End,
@@ -17,7 +17,7 @@ enum Turn {
 }
 
 // How the trials ended: with the last state, or at a refusal.
-#[derive(Drop)]
+#[derive(Clone, Copy)]
 enum Trials {
     Over(State),
     Refused,

@@ -7,7 +7,7 @@ ghost use Rattle.fields.specs.Fields.{double_at};
 ghost use Rattle.fields.specs.Packing.{size_of};
 ghost use Rattle.records.specs.Options.{layout_by, usual_options, options_answer, view_options, options_tests};
 
-#[derive(Drop)]
+#[derive(Clone, Copy)]
 pub struct RansacOptions {
     // the largest distance of a mark that agrees
     pub thresh: f64,
@@ -22,7 +22,7 @@ pub struct RansacOptions {
 }
 
 // What `read_options` answers: the options, or the number of the refusal.
-#[derive(Drop)]
+#[derive(Clone, Copy)]
 pub enum OptionsRead {
     Options(RansacOptions),
     Refused(u32),

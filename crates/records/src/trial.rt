@@ -5,14 +5,14 @@ ghost use Rattle.records.specs.Trial.{model_from, marks_formed, numbers_formed, 
 
 use sheet::Model;
 
-#[derive(Drop)]
+#[derive(Clone, Copy)]
 pub struct Refitted {
     pub fit: Model,
     pub refit: Model,
 }
 
 // What `read_trial` answers: no fit, a fit, a fit with its refit, or the number of the refusal.
-#[derive(Drop)]
+#[derive(Clone, Copy)]
 pub enum Recorded {
     Empty,
     Fit(Model),

@@ -12,14 +12,14 @@ ghost use Rattle.root.specs.Digits.{Chosen, Ready, NextDigit, Holds, whole_root}
 ghost use Rattle.root.specs.Root.{significand, exponent, shift_of, IsScaled, root_bits, root_of, root_answer, view_rooted};
 
 // What `root` answers: the root, or the number of the refusal.
-#[derive(Drop)]
+#[derive(Clone, Copy)]
 pub enum Rooted {
     Root(f64),
     Refused(u32),
 }
 
 // Two roots.
-#[derive(Drop)]
+#[derive(Clone, Copy)]
 pub struct Roots {
     pub first: f64,
     pub second: f64,
@@ -28,7 +28,7 @@ pub struct Roots {
 // The digit loop's state, in place: the root so far times the unit; what is left of the number, that
 // is the remainder times the unit with the digits still to come behind it; and the unit. With each
 // digit what is left doubles and the unit halves, so that no digit is ever brought down.
-#[derive(Drop)]
+#[derive(Clone, Copy)]
 struct Digits {
     root: u64,
     left: u64,
@@ -36,7 +36,7 @@ struct Digits {
 }
 
 // Two such states side by side, with one unit.
-#[derive(Drop)]
+#[derive(Clone, Copy)]
 struct TwoDigits {
     root: u64,
     left: u64,
@@ -47,14 +47,14 @@ struct TwoDigits {
 
 // A number that is scaled for its root: the significand, in 53 or 54 digits, and the root's exponent in
 // its place.
-#[derive(Drop)]
+#[derive(Clone, Copy)]
 struct Scaled {
     n: u64,
     place: u64,
 }
 
 // The bit patterns of two roots.
-#[derive(Drop)]
+#[derive(Clone, Copy)]
 struct TwoPatterns {
     first: u64,
     second: u64,

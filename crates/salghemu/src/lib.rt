@@ -18,7 +18,7 @@ use sheet::Model;
 pub use writing::{salghemu_write_mark, salghemu_write_options, salghemu_write_trial};
 
 // How the trials ended: at the bound or the end of the list, or with a refused trial's number.
-#[derive(Drop)]
+#[derive(Clone, Copy)]
 enum Ran {
     Stopped(State),
     Broken(u32),

@@ -14,7 +14,7 @@ ghost use Rattle.score.specs.Less.{less_of};
 
 // A threshold, and the squared distances that it settles without a root: up to `low` they are within
 // it, from `high` on they are not.
-#[derive(Drop)]
+#[derive(Clone, Copy)]
 struct Limits {
     thresh: f64,
     low: f64,
@@ -22,14 +22,14 @@ struct Limits {
 }
 
 // How many squares are within the threshold for sure, and how many may be.
-#[derive(Drop)]
+#[derive(Clone, Copy)]
 struct Tally {
     sure: usize,
     possible: usize,
 }
 
 // What `rms_if_less` answers: the root mean square, if it is less than the other.
-#[derive(Drop)]
+#[derive(Clone, Copy)]
 pub enum Less {
     Below(f64),
     NotBelow,
@@ -38,7 +38,7 @@ pub enum Less {
 // What is added to a sum of squares by the roots that are within: all but one are added, and for that
 // one, if it waits, the square is kept whose root it is. So two roots are taken together, which takes
 // less time than one after the other.
-#[derive(Drop)]
+#[derive(Clone, Copy)]
 struct Sum {
     total: f64,
     waits: bool,

@@ -1,5 +1,7 @@
 // Marks and candidates of a sheet (document 01, 'Marks' and 'Distance'): the tests that every entry
 // makes of a list of marks, the projection by a homography, and the distance of a mark under it.
+#![tactic(auto)]
+
 mod marks;
 mod model;
 

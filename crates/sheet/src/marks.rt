@@ -7,7 +7,7 @@ ghost use Rattle.sheet.specs.Marks.{marks_of, mark_at, point_of, point_at, squar
 
 // A printed mark: where it is on the sheet, and where the camera saw it. In the terms of the field, a
 // point correspondence.
-#[derive(Drop)]
+#[derive(Clone, Copy)]
 pub struct Mark {
     pub x: f64,
     pub y: f64,
@@ -15,14 +15,14 @@ pub struct Mark {
     pub v: f64,
 }
 
-#[derive(Drop)]
+#[derive(Clone, Copy)]
 pub struct Point {
     pub x: f64,
     pub y: f64,
 }
 
 // Which of a mark's two points.
-#[derive(Drop)]
+#[derive(Clone, Copy)]
 pub enum Side {
     Sheet,
     Pixel,

@@ -10,7 +10,7 @@ ghost use Rattle.sheet.specs.Distance.{projection_of, squared_residual, measure_
 use crate::marks::{Mark, Point, Side, all_in_range, point_of};
 
 // A candidate: the homography from the sheet to pixels, row by row.
-#[derive(Drop)]
+#[derive(Clone, Copy)]
 pub struct Model {
     pub h0: f64,
     pub h1: f64,
@@ -24,7 +24,7 @@ pub struct Model {
 }
 
 // What a homography makes of a point: the divisor s, and the point that it maps to.
-#[derive(Drop)]
+#[derive(Clone, Copy)]
 pub struct Projection {
     pub s: f64,
     pub at: Point,
@@ -32,7 +32,7 @@ pub struct Projection {
 
 // What `distance` answers: the distance, that the mark is beyond the horizon, or the number of the
 // refusal.
-#[derive(Drop)]
+#[derive(Clone, Copy)]
 pub enum Measured {
     Distance(f64),
     Beyond,

@@ -8,14 +8,14 @@ ghost use Rattle.tally.specs.Tally.{one_more, score_after, no_scores, scores_aft
 use libc::STDOUT_FILENO;
 
 // How many answers agree, of how many.
-#[derive(Drop)]
+#[derive(Clone, Copy)]
 pub struct Score {
     pub right: u64,
     pub all: u64,
 }
 
 // The scores of a list of answers: of its four kinds, and of records that are of none.
-#[derive(Drop)]
+#[derive(Clone, Copy)]
 pub struct Scores {
     pub first: Score,
     pub second: Score,
