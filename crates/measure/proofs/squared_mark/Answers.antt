@@ -1,0 +1,13 @@
+-- `measure::squared_mark` meets its contract. Assumes nothing.
+use mathlib.Core.Path.{refl}
+use Rattle.sheet.specs.Distance.{beyond_under}
+use Rattle.measure.specs.Distances.{squared_of}
+use Rattle.measure.proofs.squared_mark.Goals as goal
+
+pub returns-then-to : goal.returns-then-to
+unfolding squared_of beyond_under
+returns-then-to c = rw (← c.point_of.ensures, ← c.project-to.ensures, ← c.point_of-2.ensures, c.if-to.true) (c.squared_residual-square.ensures, refl)
+
+pub returns-else-to : goal.returns-else-to
+unfolding squared_of beyond_under
+returns-else-to c = rw (← c.point_of.ensures, ← c.project-to.ensures, c.if-to.false) (refl, refl)
