@@ -1,18 +1,11 @@
 -- `linalg::centroid` meets its contract. Assumes nothing.
 use Rattle.std.proofs.Common.{◌-◌, ◌<◌, length, arith, rules}
-use lib.Ieee.{Float}
 use Rattle.sheet.specs.Marks.{marks_of}
-use Rattle.sheet.specs.declared.marks.Point.{Point}
 use Rattle.linalg.specs.Normalize.{centroid_of}
 use Rattle.linalg.proofs.Sums.{owed_all, owed_next, owed_mean}
+use Rattle.linalg.proofs.centroid.Invariants.{xOf, yOf}
 use Rattle.linalg.proofs.centroid.Goals.{After-struct_known-in-loop-i-1}
 use Rattle.linalg.proofs.centroid.Goals as goal
-
-abbrev xOf : Point → Float
-xOf p = p.x
-
-abbrev yOf : Point → Float
-yOf p = p.y
 
 pub loop-i-init : goal.loop-i-init
 loop-i-init c = (search rules, (owed_all xOf _ _, owed_all yOf _ _))

@@ -1,16 +1,11 @@
 -- `linalg::mean_distance` meets its contract. Assumes nothing.
 use Rattle.std.proofs.Common.{◌+◌, ◌-◌, ◌<◌, length, arith, rules}
-use lib.Ieee.{Float}
-use Rattle.root.specs.Root.{root_of}
 use Rattle.sheet.specs.Marks.{marks_of, squared_apart}
-use Rattle.sheet.specs.declared.marks.Point.{Point}
 use Rattle.linalg.specs.Normalize.{mean_distance}
 use Rattle.linalg.proofs.Sums.{owed_all, owed_next, owed_two, owed_mean}
+use Rattle.linalg.proofs.mean_distance.Invariants.{away}
 use Rattle.linalg.proofs.mean_distance.Goals.{After-sqrt_two-two}
 use Rattle.linalg.proofs.mean_distance.Goals as goal
-
-abbrev away : Point → Point → Float
-away centre p = root_of (squared_apart p centre)
 
 pub loop-i-init : goal.loop-i-init
 loop-i-init c = (search rules, owed_all (away _) _ _)

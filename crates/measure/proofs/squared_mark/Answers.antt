@@ -6,8 +6,12 @@ use Rattle.measure.proofs.squared_mark.Goals as goal
 
 pub returns-then-to : goal.returns-then-to
 unfolding squared_of beyond_under
-returns-then-to c = rw (← c.point_of.ensures, ← c.project-to.ensures, ← c.point_of-2.ensures, c.if-to.true) (c.squared_residual-square.ensures, refl)
+returns-then-to c =
+    record {
+      square_value = rw (← c.point_of.ensures, ← c.project-to.ensures, ← c.point_of-2.ensures, c.if-to.true) c.squared_residual-square.ensures;
+      ahead_value = rw (← c.point_of.ensures, ← c.project-to.ensures, c.if-to.true) refl;
+    }
 
 pub returns-else-to : goal.returns-else-to
 unfolding squared_of beyond_under
-returns-else-to c = rw (← c.point_of.ensures, ← c.project-to.ensures, c.if-to.false) (refl, refl)
+returns-else-to c = record { square_value = rw (← c.point_of.ensures, ← c.project-to.ensures, c.if-to.false) (refl); ahead_value = rw (← c.point_of.ensures, ← c.project-to.ensures, c.if-to.false) (refl) }
