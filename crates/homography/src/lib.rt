@@ -1,6 +1,8 @@
 // The rows of the homography's linear system (document 01, 'Rows'; `dlt_homography` of
 // homography.rs): two of nine numbers for each mark, from normalised coordinates that are worked out
 // mark by mark.
+#![tactic(auto)]
+
 ghost use Rattle.std.specs.Prelude.{◌≡◌, ◌++◌, ◌+◌, ◌*◌, ◌≤◌, length};
 ghost use Rattle.rule.specs.Lists.{replaced};
 ghost use Rattle.sheet.specs.Marks.{marks_of};

@@ -1,6 +1,8 @@
 // What a trial comes to by itself (document 01, 'Trials'): its tests but for the end of the run and
 // the range of the marks' numbers, and the judging of its record over the marks. Each model that is
 // asked for is measured once, into a list that is lent; all the rest is read from that list.
+#![tactic(auto)]
+
 ghost use Rattle.std.specs.Prelude.{◌≡◌, ◌≤◌, length};
 ghost use Rattle.rule.specs.Lists.{filled};
 ghost use Rattle.rule.specs.Order.{first_failed};

@@ -58,11 +58,11 @@ module _ (l : List ℕ) where
   no-options h = rw h
 
   module _ {sized : Bool} (by : sized ≡ eqb (length l) (size_of (layout_by (length l)))) where
-    pub options-length : not sized ≡ true → refused RECORD ≡ options_answer l
+    pub options-length : sized ≡ false → refused RECORD ≡ options_answer l
     unfolding options_formed
     options-length h = no-options (rw (failed by h))
 
-    module _ (size : not sized ≡ false) where
+    module _ (size : sized ≡ true) where
       -- by the fields alone
       by_fields : options_formed l ≡ options_sound (fields_in l)
       unfolding options_formed
@@ -71,7 +71,7 @@ module _ (l : List ℕ) where
       wide : 32 ≤ length l
       wide = ⊎_elim (λ e. omega (arith, e)) (λ e. omega (arith, e)) (either_size (length l) (held by size))
 
-      pub options_filler : {zeros : Bool} → zeros ≡ zero_bytes 25 32 l → not zeros ≡ true → refused RECORD ≡ options_answer l
+      pub options_filler : {zeros : Bool} → zeros ≡ zero_bytes 25 32 l → zeros ≡ false → refused RECORD ≡ options_answer l
       unfolding options_sound
       options_filler e h = no-options (by_fields ∙ rw (← filler_placed l wide, failed e h, and_false))
 
@@ -83,7 +83,7 @@ module _ (l : List ℕ) where
         unfolding options_sound
         options_mark h = no-options (by_fields ∙ rw (← here, lt-leb mark 1 h))
 
-        module _ (small : mark ≤ 1) {zeros : Bool} (filler : zeros ≡ zero_bytes 25 32 l) (good : not zeros ≡ false) where
+        module _ (small : mark ≤ 1) {zeros : Bool} (filler : zeros ≡ zero_bytes 25 32 l) (good : zeros ≡ true) where
           options_formed_lem : options_formed l ≡ true
           unfolding options_sound
           options_formed_lem = by_fields ∙ rw (← here, le-leb mark 1 small, ← filler_placed l wide) (held filler good)
@@ -114,33 +114,33 @@ few-iters o h =
 
 module _ (o : RansacOptions) where
   module _ {finite : Bool} (is : finite ≡ is_finite o.thresh) where
-    pub thresh_wide : not finite ≡ true → THRESH ≡ first_failed (options_tests o)
+    pub thresh_wide : finite ≡ false → THRESH ≡ first_failed (options_tests o)
     unfolding options_tests thresh
     thresh_wide h = stops (thresh o) _ (rw (failed is h))
 
-    module _ (some : not finite ≡ false) where
-      pub thresh-low : not (lt zero' o.thresh) ≡ true → THRESH ≡ first_failed (options_tests o)
+    module _ (some : finite ≡ true) where
+      pub thresh-low : lt zero' o.thresh ≡ false → THRESH ≡ first_failed (options_tests o)
       unfolding options_tests thresh
-      thresh-low h = stops (thresh o) _ (rw (held is some) h)
+      thresh-low h = stops (thresh o) _ (rw (held is some, h))
 
-      module _ (above : not (lt zero' o.thresh) ≡ false) where
+      module _ (above : lt zero' o.thresh ≡ true) where
         thresh_passes : first_failed (confidence o ∷ iters o ∷ ratio o.ratio ∷ []) ≡ first_failed (options_tests o)
         unfolding options_tests thresh
-        thresh_passes = passes (thresh o) _ (rw (held is some) above)
+        thresh_passes = passes (thresh o) _ (rw (held is some, above))
 
-        pub confidence-low : not (lt zero' o.confidence) ≡ true → CONFIDENCE ≡ first_failed (options_tests o)
+        pub confidence-low : lt zero' o.confidence ≡ false → CONFIDENCE ≡ first_failed (options_tests o)
         unfolding confidence
-        confidence-low h = stops (confidence o) _ (rw (not-true (lt zero' o.confidence) h)) ∙ thresh_passes
+        confidence-low h = stops (confidence o) _ (rw h) ∙ thresh_passes
 
-        module _ (positive : not (lt zero' o.confidence) ≡ false) where
-          pub confidence-high : not (lt o.confidence one) ≡ true → CONFIDENCE ≡ first_failed (options_tests o)
+        module _ (positive : lt zero' o.confidence ≡ true) where
+          pub confidence-high : lt o.confidence one ≡ false → CONFIDENCE ≡ first_failed (options_tests o)
           unfolding confidence
-          confidence-high h = stops (confidence o) _ (rw (not-false (lt zero' o.confidence) positive) h) ∙ thresh_passes
+          confidence-high h = stops (confidence o) _ (rw (positive, h)) ∙ thresh_passes
 
-          module _ (below : not (lt o.confidence one) ≡ false) where
+          module _ (below : lt o.confidence one ≡ true) where
             confidence_passes : first_failed (iters o ∷ ratio o.ratio ∷ []) ≡ first_failed (options_tests o)
             unfolding confidence
-            confidence_passes = passes (confidence o) _ (rw (not-false (lt zero' o.confidence) positive) below) ∙ thresh_passes
+            confidence_passes = passes (confidence o) _ (rw (positive, below)) ∙ thresh_passes
 
             pub iters-none : o.max_iters ≡ 0 → ITERS ≡ first_failed (options_tests o)
             unfolding iters
@@ -157,11 +157,11 @@ module _ (o : RansacOptions) where
                 iters_pass = passes (iters o) _ (rw (ne_eqb o.max_iters 0 some-iters) (le-ltb 100000 o.max_iters few-iters)) ∙ confidence_passes
 
                 module _ {accepted : Bool} (by : accepted ≡ ratio_accepted o.ratio) where
-                  pub ratio_outside : not accepted ≡ true → RATIO ≡ first_failed (options_tests o)
+                  pub ratio_outside : accepted ≡ false → RATIO ≡ first_failed (options_tests o)
                   unfolding ratio
                   ratio_outside h = stops (ratio o.ratio) _ (rw (failed by h)) ∙ iters_pass
 
-                  pub options-accepted : not accepted ≡ false → 0 ≡ first_failed (options_tests o)
+                  pub options-accepted : accepted ≡ true → 0 ≡ first_failed (options_tests o)
                   unfolding ratio first_failed
                   options-accepted h = passes (ratio o.ratio) [] (rw (held by h)) ∙ iters_pass
 
@@ -241,27 +241,27 @@ module _ (l : List ℕ) where
       sound =
           rw (trial-fields, a ∙ fit_placed l size, b ∙ refit_mark_placed l size, trial_filler_placed l size, fit_bits_placed l size, refit_bits_placed l size)
 
-      pub trial-marks : not marks ≡ true → false ≡ trial_formed l
+      pub trial-marks : marks ≡ false → false ≡ trial_formed l
       trial-marks h = rw (← sound, failed m h)
 
-      pub trial_filler : {zeros : Bool} → zeros ≡ zero_bytes 2 8 l → not zeros ≡ true → false ≡ trial_formed l
+      pub trial_filler : {zeros : Bool} → zeros ≡ zero_bytes 2 8 l → zeros ≡ false → false ≡ trial_formed l
       trial_filler e h = rw (← sound, failed e h, and_false)
 
-      pub fit-numbers : {r : Bool} → r ≡ numbers_formed (eqb fit 1) (take 9 (drop 1 (longs_of l))) → not r ≡ true → false ≡ trial_formed l
+      pub fit-numbers : {r : Bool} → r ≡ numbers_formed (eqb fit 1) (take 9 (drop 1 (longs_of l))) → r ≡ false → false ≡ trial_formed l
       fit-numbers e h = rw (← sound, failed e h, and_false, and_false)
 
-      pub trial-whole : not marks ≡ false → {zeros : Bool} → zeros ≡ zero_bytes 2 8 l → not zeros ≡ false
-          → {r : Bool} → r ≡ numbers_formed (eqb fit 1) (take 9 (drop 1 (longs_of l))) → not r ≡ false → {q : Bool} → q ≡ numbers_formed (eqb refit 1) (take 9 (drop 10 (longs_of l))) → q ≡ trial_formed l
+      pub trial-whole : marks ≡ true → {zeros : Bool} → zeros ≡ zero_bytes 2 8 l → zeros ≡ true
+          → {r : Bool} → r ≡ numbers_formed (eqb fit 1) (take 9 (drop 1 (longs_of l))) → r ≡ true → {q : Bool} → q ≡ numbers_formed (eqb refit 1) (take 9 (drop 10 (longs_of l))) → q ≡ trial_formed l
       trial-whole right z good f fits e = rw (← sound, held m right, held z good, held f fits) e
 
   -- ---- the trial
 
   module _ {formed : Bool} (is : formed ≡ trial_formed l) where
-    pub no-trial : not formed ≡ true → refused RECORD ≡ trial_answer l
+    pub no-trial : formed ≡ false → refused RECORD ≡ trial_answer l
     unfolding trial_answer decided first_failed trial_record
     no-trial h = rw (failed is h)
 
-    module _ (good : not formed ≡ false) where
+    module _ (good : formed ≡ true) where
       given : gives (trial_of l) ≡ trial_answer l
       unfolding trial_answer decided first_failed trial_record
       given = rw (held is good)

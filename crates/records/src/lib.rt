@@ -1,5 +1,7 @@
 // The records that the other machines write (document 01, 'Options', 'Marks', 'Trials'): options,
 // marks and trials, read from bytes.
+#![tactic(auto)]
+
 mod marks;
 mod options;
 mod trial;

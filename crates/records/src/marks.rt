@@ -1,5 +1,5 @@
 // A mark file (document 01, 'Marks'): 32 bytes a mark, read mark by mark.
-ghost use Rattle.std.specs.Prelude.{◌≡◌, get_or};
+ghost use Rattle.std.specs.Prelude.{◌≡◌, get_or, length};
 ghost use Rattle.rule.specs.Lists.{filled};
 ghost use Rattle.sheet.specs.Marks.{no_mark, mark_numbers};
 ghost use Rattle.records.specs.Marks.{marks_in, numbers_in};
@@ -30,7 +30,7 @@ pub fn read_mark(bytes: &[u8], i: usize) -> Mark
 
 // Writes a mark's numbers to their own four places.
 fn put_mark(part: &mut [f64], m: Mark)
-    requires* { do ⌜ (← ⟦part.len()⟧) ≡ 4 ⌝ }
+    requires { length part.old ≡ 4 }
     ensures { part.new ≡ mark_numbers m }
 {
     part[0] = m.x;

@@ -52,7 +52,7 @@ fn read_trials(o: RansacOptions, marks: &[f64], stops: &[u32], trials: &[u8]) ->
 
 // The winner's record, into its own 88 places.
 fn put_winner(part: &mut [u8], w: Winner)
-    requires* { do ⌜ (← ⟦part.len()⟧) ≡ 88 ⌝ }
+    requires { length part.old ≡ 88 }
     ensures { part.new ≡ winner_bytes (view_winner w) }
 {
     let h = w.model;

@@ -2,6 +2,8 @@
 // square of those, and which they are. All is read from a list of the distances' squares, which a
 // family's measuring has filled: nothing here knows a model or a mark. (In the terms of the field, the
 // support of a hypothesis.) Roots are the cost, so none is taken that the answer doesn't need.
+#![tactic(auto)]
+
 ghost use Rattle.std.specs.Prelude.{◌≡◌, cond, true, false, map, ◌≤◌};
 ghost use Rattle.std.specs.Float.Ieee.{le};
 ghost use Rattle.root.specs.Root.{root_of};

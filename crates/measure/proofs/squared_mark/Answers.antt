@@ -1,4 +1,5 @@
 -- `measure::squared_mark` meets its contract. Assumes nothing.
+use lib.Ieee.{nan_bits}
 use mathlib.Core.Path.{refl}
 use Rattle.sheet.specs.Distance.{beyond_under}
 use Rattle.measure.specs.Distances.{squared_of}
@@ -15,3 +16,7 @@ returns-then-to c =
 pub returns-else-to : goal.returns-else-to
 unfolding squared_of beyond_under
 returns-else-to c = record { square_value = rw (← c.point_of.ensures, ← c.project-to.ensures, c.if-to.false) (refl); ahead_value = rw (← c.point_of.ensures, ← c.project-to.ensures, c.if-to.false) (refl) }
+
+pub float_from_bits-result : goal.float_from_bits-result
+unfolding nan_bits
+float_from_bits-result c = tt
