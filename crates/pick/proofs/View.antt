@@ -74,11 +74,11 @@ state_onto r = (state_of r, state_there r)
 -- ---- a trial's answer
 
 unfoldable outcome_of : Book.Outcome → Outcome
-outcome_of (Book.is-refused k) = Outcomes.Refused k
-outcome_of Book.is-empty = Outcomes.Empty
-outcome_of (Book.is-few k) = Outcomes.Few k
+outcome_of (Book.is_refused k) = Outcomes.Refused k
+outcome_of Book.is_empty = Outcomes.Empty
+outcome_of (Book.is_few k) = Outcomes.Few k
 outcome_of (Book.is_held k q) = Outcomes.Held k q
-outcome_of (Book.is-won k q) = Outcomes.Won k q
+outcome_of (Book.is_won k q) = Outcomes.Won k q
 
 outcome_back : (x : Outcome) → outcome_of (view_outcome x) ≡ x
 unfolding outcome_of view_outcome
@@ -90,11 +90,11 @@ outcome_back (Outcomes.Won k q) = refl
 
 outcome_there : (x : Book.Outcome) → view_outcome (outcome_of x) ≡ x
 unfolding outcome_of view_outcome
-outcome_there (Book.is-refused k) = refl
-outcome_there Book.is-empty = refl
-outcome_there (Book.is-few k) = refl
+outcome_there (Book.is_refused k) = refl
+outcome_there Book.is_empty = refl
+outcome_there (Book.is_few k) = refl
 outcome_there (Book.is_held k q) = refl
-outcome_there (Book.is-won k q) = refl
+outcome_there (Book.is_won k q) = refl
 
 pub outcome-one : (x y : Outcome) → view_outcome x ≡ view_outcome y → x ≡ y
 outcome-one = told_apart view_outcome outcome_of outcome_back

@@ -1,5 +1,7 @@
 // The picker, one call at a time (document 01, 'Trials' and 'Picking rule'): the opening of a run, a
 // trial, and the indices of the winner's marks. The state goes from call to call by value.
+#![tactic(auto)]
+
 mod advancing;
 mod indices;
 mod opening;
