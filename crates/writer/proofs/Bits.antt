@@ -67,6 +67,8 @@ fields_fit (x ∷ l) t rest =
 pub bits_again : (n : ℕ) (bits : List ℕ) → Fit (replicate n 8) bits → all_finite (map (of_bits binary64) bits) ≡ true → map (to_bits binary64) (map (of_bits binary64) bits) ≡ bits
 unfolding all_finite every
 bits_again zero [] fit h = refl
+bits_again zero (b ∷ bits) fit h = elim fit [ ]
+bits_again (suc n) [] fit h = elim fit [ ]
 bits_again (suc n) (b ∷ bits) (more k fit) h =
     let e = both_true (is_finite (of_bits binary64 b)) (every is_finite (map (of_bits binary64) bits)) h in
     ap₂ (λ c cs. c ∷ cs) (bits_back b k (finite_no_nan (of_bits binary64 b) e.0)) (bits_again n bits fit e.1)

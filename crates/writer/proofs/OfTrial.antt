@@ -165,18 +165,18 @@ module _ (n : TrialNumbers) (entry : List ℕ) where
     malformed h = by_record (stops (form (trial_fields n)) [] (rw h) ∙ after_nine)
 
     module _ {marks : Bool} (m : marks ≡ marks_formed n.fit_mark n.refit_mark) where
-      pub marks_wrong : not marks ≡ true → Wrote trial_format n entry RECORD entry
+      pub marks_wrong : marks ≡ false → Wrote trial_format n entry RECORD entry
       marks_wrong h = malformed (sym (sound_is n a b) ∙ rw (failed m h))
 
-      module _ (right : not marks ≡ false) {f : Bool} (fits : f ≡ numbers_formed (eqb n.fit_mark 1) (fit n a b)) where
-        pub fit_wrong : not f ≡ true → Wrote trial_format n entry RECORD entry
+      module _ (right : marks ≡ true) {f : Bool} (fits : f ≡ numbers_formed (eqb n.fit_mark 1) (fit n a b)) where
+        pub fit_wrong : f ≡ false → Wrote trial_format n entry RECORD entry
         fit_wrong h = malformed (sym (sound_is n a b) ∙ rw (failed fits h, and_false))
 
-        module _ (fit-right : not f ≡ false) {r : Bool} (refits : r ≡ numbers_formed (eqb n.refit_mark 1) (refit n a b)) where
-          pub refit_wrong : not r ≡ true → Wrote trial_format n entry RECORD entry
+        module _ (fit-right : f ≡ true) {r : Bool} (refits : r ≡ numbers_formed (eqb n.refit_mark 1) (refit n a b)) where
+          pub refit_wrong : r ≡ false → Wrote trial_format n entry RECORD entry
           refit_wrong h = malformed (sym (sound_is n a b) ∙ rw (failed refits h, and_false, and_false))
 
-          module _ (refit-right : not r ≡ false) where
+          module _ (refit-right : r ≡ true) where
             passed : 0 ≡ tests
             unfolding first_failed
             passed =

@@ -1,5 +1,7 @@
 // The writer of records (document 02, order 1): options, a mark or a trial from plain numbers, one
 // record at a time, into a lent buffer. What a reader of the record would refuse isn't written.
+#![tactic(auto)]
+
 mod mark;
 mod options;
 mod trial;
