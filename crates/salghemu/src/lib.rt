@@ -2,6 +2,8 @@
 // bytes, and two lent outputs. Everything is decoded once and the marks are tested once; then each
 // trial costs a walk over the marks for each model that is counted, and one over their squares. Roots
 // are taken for a trial that may win. The writers of records for C are in `writing`.
+#![tactic(auto)]
+
 mod writing;
 
 ghost use Rattle.std.specs.Prelude.{◌≡◌, ◌*◌, ◌%◌, ◌≤◌, length};
@@ -199,8 +201,7 @@ fn run_options(
 }
 
 // The whole run: 0 and the winner written, or the number of the refusal and nothing written.
-#[unsafe(no_mangle)]
-pub extern "C" fn salghemu_run(
+pub fn salghemu_run(
     options: &[u8],
     marks: &[u8],
     stops: &[u8],
@@ -208,7 +209,7 @@ pub extern "C" fn salghemu_run(
     winner: &mut [u8],
     indices: &mut [u8],
 ) -> u32
-    ensures { Gave (run_answer (record { options = options.entry.now; marks = marks.now; stops = stops.now; trials = trials.now }) (length winner.old) (length indices.old)) (options_of options.entry.now) (numbers_in marks.now) winner.old indices.old result winner.new indices.new }
+    ensures { Gave (run_answer (record { options = options.now; marks = marks.now; stops = stops.now; trials = trials.now }) (length winner.old) (length indices.old)) (options_of options.now) (numbers_in marks.now) winner.old indices.old result winner.new indices.new }
 {
     match records::read_options(options) {
         OptionsRead::Refused(k) => k,

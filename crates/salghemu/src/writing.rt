@@ -4,8 +4,7 @@ ghost use Rattle.std.specs.Prelude.{◌≡◌};
 ghost use Rattle.writer.specs.Format.{writer_answer, written};
 ghost use Rattle.writer.specs.Formats.{options_format, mark_format, trial_format};
 
-#[unsafe(no_mangle)]
-pub extern "C" fn salghemu_write_options(
+pub fn salghemu_write_options(
     thresh: f64,
     confidence: f64,
     max_iters: u32,
@@ -28,16 +27,14 @@ pub extern "C" fn salghemu_write_options(
     )
 }
 
-#[unsafe(no_mangle)]
-pub extern "C" fn salghemu_write_mark(x: f64, y: f64, u: f64, v: f64, out: &mut [u8]) -> u32
+pub fn salghemu_write_mark(x: f64, y: f64, u: f64, v: f64, out: &mut [u8]) -> u32
     ensures value { result ≡ writer_answer mark_format (record { x = x; y = y; u = u; v = v }) out.old }
     ensures out_after { out.new ≡ written mark_format (record { x = x; y = y; u = u; v = v }) out.old }
 {
     writer::write_mark(x, y, u, v, out)
 }
 
-#[unsafe(no_mangle)]
-pub extern "C" fn salghemu_write_trial(
+pub fn salghemu_write_trial(
     fit_mark: u8,
     refit_mark: u8,
     fit: &[f64],
