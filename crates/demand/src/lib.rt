@@ -2,6 +2,8 @@
 // demand's words, and `proofs/Demanded.antt` proves it (`demand_3`). The functions here only call
 // through: each promises, in the theorem's own words, what the theorem takes as its premise, so that
 // a weaker contract of what is called breaks this crate.
+#![tactic(auto)]
+
 ghost use Rattle.demand.specs.Demand.{Opens, OpensBy, Tried as Tries, Stepped, Indexes, Ran};
 
 use pick::{Indexed, Opened, State, Tried};
