@@ -1,5 +1,7 @@
 // The leaves and entries for the comparison with the Rust: each one exported with plain numbers, over the C
 // calling convention. A NaN stands where an answer has no number.
+#![tactic(auto)]
+
 mod geometry;
 
 ghost use Rattle.std.specs.Prelude.{◌≡◌, [], ◌∷◌, get_or};
