@@ -1,5 +1,7 @@
 // The picker's entries for the comparison with the Rust: each one exported with plain numbers, over the
 // C calling convention. A state is handed in and out as 25 words.
+#![tactic(auto)]
+
 mod reading;
 mod scoring;
 mod writing;
