@@ -2,100 +2,92 @@
 // is its bits, in 16 hexadecimal digits.
 ghost use Rattle.std.specs.Prelude.{◌≤◌};
 
-use libc::STDOUT_FILENO;
 use pick::{Best, Indexed, Outcome, State, Winner};
-
-pub(crate) fn print(text: &[u8]) {
-    io::write_all(STDOUT_FILENO, text);
-}
+use std::io;
 
 // A space and the number.
-fn print_number(n: u32) {
-    print(b" ");
-    io::print_decimal(STDOUT_FILENO, n as u64);
+fn print_number(rt: &impl Print, n: u32) -> io::Result<()> {
+    print!(rt; " {n}")
 }
 
 // The end of a line: a count and a root mean square.
-fn print_scored(count: u32, rms: f64) {
-    print_number(count);
-    print(b" ");
-    io::print_hex(STDOUT_FILENO, fields::bits_of(rms), 16);
-    print(b"\n");
+fn print_scored(rt: &impl Print, count: u32, rms: f64) -> io::Result<()> {
+    print_number(rt, count)?;
+    let bits = fields::bits_of(rms);
+    println!(rt; " {bits:016x}")
 }
 
-pub(crate) fn print_refused(k: u32) {
-    print(b"refused");
-    print_number(k);
-    print(b"\n");
+pub(crate) fn print_refused(rt: &impl Print, k: u32) -> io::Result<()> {
+    println!(rt; "refused {k}")
 }
 
 // The start of a trial's line: its number, and then `text`.
-fn print_start(number: u32, text: &[u8]) {
-    io::print_decimal(STDOUT_FILENO, number as u64);
-    print(text);
+fn print_start(rt: &impl Print, number: u32, text: &str) -> io::Result<()> {
+    rt.print(number)?;
+    rt.print(text)
 }
 
 // The line of a trial, or of its refusal.
-pub(crate) fn print_trial(number: u32, outcome: Outcome) {
+pub(crate) fn print_trial(rt: &impl Print, number: u32, outcome: Outcome) -> io::Result<()> {
     match outcome {
-        Outcome::Refused(k) => print_refused(k),
-        Outcome::Empty => print_start(number, b" empty - -\n"),
+        Outcome::Refused(k) => print_refused(rt, k),
+        Outcome::Empty => print_start(rt, number, " empty - -\n"),
         Outcome::Few(count) => {
-            print_start(number, b" few");
-            print_number(count);
-            print(b" -\n");
+            print_start(rt, number, " few")?;
+            print_number(rt, count)?;
+            rt.print(" -\n")
         }
         Outcome::Held(count, rms) => {
-            print_start(number, b" held");
-            print_scored(count, rms);
+            print_start(rt, number, " held")?;
+            print_scored(rt, count, rms)
         }
         Outcome::Won(count, rms) => {
-            print_start(number, b" won");
-            print_scored(count, rms);
+            print_start(rt, number, " won")?;
+            print_scored(rt, count, rms)
         }
     }
 }
 
 // The line of the first `count` indices.
-fn print_indices(indices: &[u32; 2000], count: usize)
+fn print_indices(rt: &impl Print, indices: &[u32; 2000], count: usize) -> io::Result<()>
     requires { count ≤ 2000 }
 {
-    print(b"indices");
+    rt.print("indices")?;
     let mut i = 0;
     while i < count {
-        print_number(indices[i]);
+        print_number(rt, indices[i])?;
         i += 1;
     }
-    print(b"\n");
+    rt.print("\n")
 }
 
 // The lines of a winner that is held. The indices are never refused here: the marks are those of the
 // opening, and there is a place for each (`indices-written` of crates/pick/proofs/Accepted.antt).
-fn print_held(s: State, w: Winner, marks: &[f64]) {
-    print(b"winner");
-    print_number(w.number);
-    print_scored(w.count, w.rms);
+fn print_held(rt: &impl Print, s: State, w: Winner, marks: &[f64]) -> io::Result<()> {
+    rt.print("winner")?;
+    print_number(rt, w.number)?;
+    print_scored(rt, w.count, w.rms)?;
     let mut indices = [0u32; 2000];
     let indexed = pick::winner_indices(s, marks, &mut indices);
     match indexed {
-        Indexed::Refused(k) => print_refused(k),
-        Indexed::Written(count) => print_indices(&indices, count),
+        Indexed::Refused(k) => print_refused(rt, k),
+        Indexed::Written(count) => print_indices(rt, &indices, count),
     }
 }
 
-pub(crate) fn print_winner(s: State, marks: &[f64]) {
+pub(crate) fn print_winner(rt: &impl Print, s: State, marks: &[f64]) -> io::Result<()> {
     let best = s.winner;
     match best {
-        Best::Nothing => print(b"winner none\n"),
-        Best::Held(w) => print_held(s, w, marks),
+        Best::Nothing => rt.print("winner none\n"),
+        Best::Held(w) => print_held(rt, s, w, marks),
     }
 }
 
-pub(crate) fn print_counts(s: State) {
-    print(b"counts");
-    print_number(s.read);
-    print_number(s.empty);
-    print_number(s.few);
-    print_number(s.scored);
-    print(b"\n");
+pub(crate) fn print_counts(rt: &impl Print, s: State) -> io::Result<()> {
+    rt.print("counts")?;
+    print_number(rt, s.read)?;
+    print_number(rt, s.empty)?;
+    print_number(rt, s.few)?;
+    print_number(rt, s.scored)?;
+    rt.print("\n")
 }
