@@ -2,10 +2,15 @@
 // hand. harness/oracle/src/answers.rs makes the list, data/answers.bin, and has its layout: records
 // of twelve little-endian words, of which the first is the kind. For each kind it prints how many
 // answers agree, bit for bit, and how many there are.
+#![tactic(auto)]
+
 ghost use Rattle.std.specs.Prelude.{◌≡◌, length};
 
 use numbers::Quadratic;
 use root::Rooted;
+use std::fs::File;
+use std::io;
+use std::io::Read;
 use tally::Scores;
 
 // Whether each leaf answers what a record says.
@@ -89,36 +94,29 @@ fn agrees(kind: u64, record: &[u8]) -> bool {
     }
 }
 
-// The list to its end. The loop counts down from a number of records that no list has.
-fn replay_all(fd: i32) -> Scores {
+// The list to its end, up to a number of records that no list has.
+fn replay_all<F: Read>(file: &mut F) -> io::Result<Scores> {
     let mut scores = tally::no_scores();
-    let mut turns: u32 = 1000000;
-    while turns > 0 {
+    for _ in 0..1000000 {
         let mut record = [0u8; 96];
-        if io::read_full(fd, &mut record) < 96 {
-            return scores;
+        if reading::read_full(file, &mut record)? < 96 {
+            return Ok(scores);
         }
         let kind = fields::long_at(&record, 0);
         scores = tally::counted(scores, kind, agrees(kind, &record));
-        turns -= 1;
     }
-    scores
+    Ok(scores)
 }
 
-fn main() {
-    let path = b"answers.bin";
-    let fd = os::open_read(path);
-    if fd < 0 {
-        os::fail(path);
-        return;
-    }
-    let scores = replay_all(fd);
-    libc::close(fd);
+fn main(rt: HostRuntime) -> io::Result<()> {
+    let mut file = File::open(&rt, "answers.bin")?;
+    let scores = replay_all(&mut file)?;
     tally::print_scores(
+        &rt,
         scores,
-        b"roots ",
-        b"quadratics ",
-        b"ranks ",
-        b"finite lists ",
-    );
+        "roots ",
+        "quadratics ",
+        "ranks ",
+        "finite lists ",
+    )
 }

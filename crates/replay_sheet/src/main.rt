@@ -2,11 +2,16 @@
 // no Rust at hand. harness/oracle/src/sheets.rs makes the list, data/sheets.bin, and has its
 // layout: records of 128 little-endian words, of which the first is the kind. For each kind it
 // prints how many answers agree, bit for bit, and how many there are.
+#![tactic(auto)]
+
 ghost use Rattle.std.specs.Prelude.{◌≡◌, ◌<◌, ◌≤◌, length};
 
 use linalg::Row;
 use line::Collinear;
 use sheet::{Mark, Measured, Model, Side};
+use std::fs::File;
+use std::io;
+use std::io::Read;
 use tally::Scores;
 
 fn side(record: &[u8]) -> Side {
@@ -22,10 +27,8 @@ fn input(record: &[u8]) -> [f64; 20]
     ensures { 20 ≡ length result }
 {
     let mut numbers = [0.0; 20];
-    let mut i = 0;
-    while i < 20 {
+    for i in 0..20 {
         numbers[i] = fields::double_at(record, 5 + i);
-        i += 1;
     }
     numbers
 }
@@ -36,12 +39,10 @@ fn input(record: &[u8]) -> [f64; 20]
 fn lent_agrees(record: &[u8], lent: &[f64; 91], len: usize) -> bool
     requires { len ≤ 91 }
 {
-    let mut i = 0;
-    while i < len {
+    for i in 0..len {
         if !tally::same(lent[i], fields::double_at(record, 25 + i)) {
             return false;
         }
-        i += 1;
     }
     true
 }
@@ -167,36 +168,29 @@ fn agrees(kind: u64, record: &[u8]) -> bool {
     }
 }
 
-// The list to its end. The loop counts down from a number of records that no list has.
-fn replay_all(fd: i32) -> Scores {
+// The list to its end, up to a number of records that no list has.
+fn replay_all<F: Read>(file: &mut F) -> io::Result<Scores> {
     let mut scores = tally::no_scores();
-    let mut turns: u32 = 1000000;
-    while turns > 0 {
+    for _ in 0..1000000 {
         let mut record = [0u8; 1024];
-        if io::read_full(fd, &mut record) < 1024 {
-            return scores;
+        if reading::read_full(file, &mut record)? < 1024 {
+            return Ok(scores);
         }
         let kind = fields::long_at(&record, 0);
         scores = tally::counted(scores, kind, agrees(kind, &record));
-        turns -= 1;
     }
-    scores
+    Ok(scores)
 }
 
-fn main() {
-    let path = b"sheets.bin";
-    let fd = os::open_read(path);
-    if fd < 0 {
-        os::fail(path);
-        return;
-    }
-    let scores = replay_all(fd);
-    libc::close(fd);
+fn main(rt: HostRuntime) -> io::Result<()> {
+    let mut file = File::open(&rt, "sheets.bin")?;
+    let scores = replay_all(&mut file)?;
     tally::print_scores(
+        &rt,
         scores,
-        b"normalisings ",
-        b"collinear ",
-        b"rows ",
-        b"distances ",
-    );
+        "normalisings ",
+        "collinear ",
+        "rows ",
+        "distances ",
+    )
 }

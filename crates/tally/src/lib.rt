@@ -1,11 +1,13 @@
 // Replayed answers, counted: how many agree, of how many. For the programs that replay lists of the
 // original Rust's answers.
+#![tactic(auto)]
+
 ghost use Rattle.std.specs.Prelude.{◌≡◌, eqb};
 ghost use Rattle.std.specs.Float.{binary64};
 ghost use Rattle.std.specs.Float.Ieee.{to_bits};
 ghost use Rattle.tally.specs.Tally.{one_more, score_after, no_scores, scores_after};
 
-use libc::STDOUT_FILENO;
+use std::io;
 
 // How many answers agree, of how many.
 #[derive(Clone, Copy)]
@@ -95,19 +97,24 @@ pub fn counted(t: Scores, kind: u64, agrees: bool) -> Scores
 }
 
 // The line of a score.
-fn print_score(name: &[u8], s: Score) {
-    io::write_all(STDOUT_FILENO, name);
-    io::print_decimal(STDOUT_FILENO, s.right);
-    io::write_all(STDOUT_FILENO, b" of ");
-    io::print_decimal(STDOUT_FILENO, s.all);
-    io::write_all(STDOUT_FILENO, b"\n");
+fn print_score(rt: &impl Print, name: &str, s: Score) -> io::Result<()> {
+    let right = s.right;
+    let all = s.all;
+    println!(rt; "{name}{right} of {all}")
 }
 
 // A line for each kind, by its name. What is written is no part of a contract.
-pub fn print_scores(t: Scores, first: &[u8], second: &[u8], third: &[u8], fourth: &[u8]) {
-    print_score(first, t.first);
-    print_score(second, t.second);
-    print_score(third, t.third);
-    print_score(fourth, t.fourth);
-    print_score(b"unknown kinds ", t.other);
+pub fn print_scores(
+    rt: &impl Print,
+    t: Scores,
+    first: &str,
+    second: &str,
+    third: &str,
+    fourth: &str,
+) -> io::Result<()> {
+    print_score(rt, first, t.first)?;
+    print_score(rt, second, t.second)?;
+    print_score(rt, third, t.third)?;
+    print_score(rt, fourth, t.fourth)?;
+    print_score(rt, "unknown kinds ", t.other)
 }
