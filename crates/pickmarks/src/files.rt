@@ -1,18 +1,18 @@
 // Reading the files that a run is opened with (document 01, 'Options', 'Marks', 'Stops'). A file that
-// can't be opened counts as empty.
-ghost use Rattle.std.specs.Prelude.{◌≡◌, ◌≤◌, IfOk, length};
+// can't be opened counts as empty. A read that fails is the end of its file.
+ghost use Rattle.std.specs.Prelude.{◌≡◌, ◌≤◌};
 ghost use Rattle.pickmarks.specs.Files.{Counts, number_count, entry_count};
 
+use std::fs;
 use std::rt::Files;
-use std::{fs, io};
 
 // Reads a file into the front of `buffer`, as far as there is room, and answers how many bytes.
-pub(crate) fn read_file<R: Files>(rt: &R, path: &str, buffer: &mut [u8]) -> io::Result<usize>
-    ensures { IfOk result (λ n. Counts n buffer.new) }
+pub(crate) fn read_file<R: Files>(rt: &R, path: &str, buffer: &mut [u8]) -> usize
+    ensures { Counts result buffer.new }
 {
     match fs::open(rt, path) {
-        Ok(mut file) => reading::read_full(&mut file, buffer),
-        Err(_) => Ok(0),
+        Ok(mut file) => reading::read_available(&mut file, buffer),
+        Err(_) => 0,
     }
 }
 
@@ -48,42 +48,42 @@ fn entry_count(len: usize) -> usize
 
 // Reads the bytes of marks.bin, and answers how many it has: one more than there is room for where it
 // has more.
-fn read_mark_bytes<R: Files>(rt: &R, bytes: &mut [u8; 64000]) -> io::Result<usize>
-    ensures { IfOk result (λ n. n ≤ 64001) }
+fn read_mark_bytes<R: Files>(rt: &R, bytes: &mut [u8; 64000]) -> usize
+    ensures { result ≤ 64001 }
 {
     match fs::open(rt, "marks.bin") {
         Ok(mut file) => {
-            let len = reading::read_full(&mut file, bytes)?;
+            let len = reading::read_available(&mut file, bytes);
             if len < 64000 {
-                return Ok(len);
+                return len;
             }
             let mut past = [0u8; 1];
-            let more = reading::read_full(&mut file, &mut past)?;
-            Ok(len + more)
+            let more = reading::read_available(&mut file, &mut past);
+            len + more
         }
-        Err(_) => Ok(0),
+        Err(_) => 0,
     }
 }
 
 // Reads marks.bin into the front of `numbers`, and answers how many of them the opening is given.
-pub(crate) fn read_marks<R: Files>(rt: &R, numbers: &mut [f64; 8000]) -> io::Result<usize>
-    ensures { IfOk result (λ n. Counts n numbers.new) }
+pub(crate) fn read_marks<R: Files>(rt: &R, numbers: &mut [f64; 8000]) -> usize
+    ensures { Counts result numbers.new }
 {
     let mut bytes = [0u8; 64000];
-    let len = read_mark_bytes(rt, &mut bytes)?;
+    let len = read_mark_bytes(rt, &mut bytes);
     // of a file that is longer than any, the opening is given one number, so no matter which
     let held = if len < 64000 { len } else { 64000 };
     records::read_marks(&bytes[..held], numbers);
-    Ok(number_count(len))
+    number_count(len)
 }
 
 // Reads stops.bin into the front of `entries`, and answers how many of them the opening is given.
-pub(crate) fn read_stops<R: Files>(rt: &R, entries: &mut [u32; 2001]) -> io::Result<usize>
-    ensures { IfOk result (λ n. Counts n entries.new) }
+pub(crate) fn read_stops<R: Files>(rt: &R, entries: &mut [u32; 2001]) -> usize
+    ensures { Counts result entries.new }
 {
     // one byte more than the longest has, so that a longer file has a wrong length too
     let mut bytes = [0u8; 8005];
-    let len = read_file(rt, "stops.bin", &mut bytes)?;
+    let len = read_file(rt, "stops.bin", &mut bytes);
     fields::read_words(&bytes[..len], entries);
-    Ok(entry_count(len))
+    entry_count(len)
 }

@@ -27,3 +27,24 @@ pub fn read_full<F: Read>(file: &mut F, buffer: &mut [u8]) -> io::Result<usize>
     }
     Ok(at)
 }
+
+// The same where a read that fails is the end of the file: how many bytes at the buffer's front are of
+// the reader.
+pub fn read_available<F: Read>(file: &mut F, buffer: &mut [u8]) -> usize
+    ensures bound { result ≤ length buffer.new }
+    ensures bytes { Consumes (F.remaining file.old) (F.remaining file.new) (take result buffer.new) }
+{
+    let mut at = 0;
+    while at < buffer.len() {
+        match file.read(&mut buffer[at..]) {
+            Ok(got) => {
+                if got == 0 {
+                    return at;
+                }
+                at += got;
+            }
+            Err(_) => return at,
+        }
+    }
+    at
+}
