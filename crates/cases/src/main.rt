@@ -2,212 +2,249 @@
 // and some traps beside them: each with what it answers, doubles as 16 hexadecimal digits. The file
 // `stdout` has the answers that 01 gives, and of document 02 `beyond` by order 2 and the row ratios by
 // order 3. Those of the picker are run by the comparison with the Rust.
+#![tactic(auto)]
+
 ghost use Rattle.std.specs.Prelude.{◌≤◌};
 
-use libc::STDOUT_FILENO;
 use line::Collinear;
 use numbers::Quadratic;
 use root::Rooted;
 use sheet::{Mark, Measured, Model, Side};
+use std::io;
 
-fn print(text: &[u8]) {
-    io::write_all(STDOUT_FILENO, text);
+fn print(rt: &impl Print, text: &str) -> io::Result<()> {
+    rt.print(text)
 }
 
 // A space, and a double's bit pattern, or `nan`.
-fn print_double(x: f64) {
+fn print_double(rt: &impl Print, x: f64) -> io::Result<()> {
     if x != x {
-        print(b" nan");
-        return;
+        return print(rt, " nan");
     }
-    print(b" ");
-    io::print_hex(STDOUT_FILENO, f64::to_bits(x), 16);
+    let bits = f64::to_bits(x);
+    print!(rt; " {bits:016x}")
 }
 
-fn print_refused(k: u32) {
-    print(b" refused ");
-    io::print_decimal(STDOUT_FILENO, k as u64);
+fn print_refused(rt: &impl Print, k: u32) -> io::Result<()> {
+    print!(rt; " refused {k}")
 }
 
-fn show_root(name: &[u8], a: f64) {
-    print(name);
+fn show_root(rt: &impl Print, name: &str, a: f64) -> io::Result<()> {
+    print(rt, name)?;
     let answer = root::root(a);
     match answer {
-        Rooted::Root(y) => print_double(y),
-        Rooted::Refused(k) => print_refused(k),
+        Rooted::Root(y) => print_double(rt, y)?,
+        Rooted::Refused(k) => print_refused(rt, k)?,
     }
-    print(b"\n");
+    print(rt, "\n")
 }
 
-fn show_quadratic(name: &[u8], a: f64, b: f64, c: f64) {
-    print(name);
+fn show_quadratic(rt: &impl Print, name: &str, a: f64, b: f64, c: f64) -> io::Result<()> {
+    print(rt, name)?;
     let answer = numbers::solve_quadratic_real(a, b, c);
     match answer {
-        Quadratic::NoRoot => print(b" none"),
-        Quadratic::One(x) => print_double(x),
+        Quadratic::NoRoot => print(rt, " none")?,
+        Quadratic::One(x) => print_double(rt, x)?,
         Quadratic::Two(x, y) => {
-            print_double(x);
-            print_double(y);
+            print_double(rt, x)?;
+            print_double(rt, y)?;
         }
-        Quadratic::Refused(k) => print_refused(k),
+        Quadratic::Refused(k) => print_refused(rt, k)?,
     }
-    print(b"\n");
+    print(rt, "\n")
 }
 
-fn show_rank(name: &[u8], values: &[f64], cols: usize, null: usize, tolerance: f64) {
-    print(name);
+fn show_rank(
+    rt: &impl Print,
+    name: &str,
+    values: &[f64],
+    cols: usize,
+    null: usize,
+    tolerance: f64,
+) -> io::Result<()> {
+    print(rt, name)?;
     if numbers::dlt_rank_ok(values, cols, null, tolerance) {
-        print(b" yes\n");
+        print(rt, " yes\n")
     } else {
-        print(b" no\n");
+        print(rt, " no\n")
     }
 }
 
-fn roots() {
+fn roots(rt: &impl Print) -> io::Result<()> {
     let infinity = 1.0 / 0.0;
-    show_root(b"root 4:", 4.0);
-    show_root(b"root 2^-1074:", 5e-324);
-    show_root(b"root 0:", 0.0);
-    show_root(b"root -0:", -0.0);
-    show_root(b"root infinity:", infinity);
-    show_root(b"root of the double before 1:", 0.9999999999999999);
-    show_root(b"root -1:", -1.0);
-    show_root(b"root -infinity:", -infinity);
-    show_root(b"root NaN:", infinity - infinity);
+    show_root(rt, "root 4:", 4.0)?;
+    show_root(rt, "root 2^-1074:", 5e-324)?;
+    show_root(rt, "root 0:", 0.0)?;
+    show_root(rt, "root -0:", -0.0)?;
+    show_root(rt, "root infinity:", infinity)?;
+    show_root(rt, "root of the double before 1:", 0.9999999999999999)?;
+    show_root(rt, "root -1:", -1.0)?;
+    show_root(rt, "root -infinity:", -infinity)?;
+    show_root(rt, "root NaN:", infinity - infinity)
 }
 
-fn quadratics() {
-    show_quadratic(b"quadratic 1, -3, 2:", 1.0, -3.0, 2.0);
-    show_quadratic(b"quadratic 1, 0, 0:", 1.0, 0.0, 0.0);
-    show_quadratic(b"quadratic 1, 0, 1:", 1.0, 0.0, 1.0);
-    show_quadratic(b"quadratic 0, 2, -4:", 0.0, 2.0, -4.0);
-    show_quadratic(b"quadratic 1, -0, 0:", 1.0, -0.0, 0.0);
-    show_quadratic(b"quadratic 0, 2, 0:", 0.0, 2.0, 0.0);
-    show_quadratic(b"quadratic -1, 3, -2:", -1.0, 3.0, -2.0);
-    show_quadratic(b"quadratic 0, 0, 1:", 0.0, 0.0, 1.0);
-    show_quadratic(b"quadratic 1, 2e100, 1:", 1.0, 2e100, 1.0);
+fn quadratics(rt: &impl Print) -> io::Result<()> {
+    show_quadratic(rt, "quadratic 1, -3, 2:", 1.0, -3.0, 2.0)?;
+    show_quadratic(rt, "quadratic 1, 0, 0:", 1.0, 0.0, 0.0)?;
+    show_quadratic(rt, "quadratic 1, 0, 1:", 1.0, 0.0, 1.0)?;
+    show_quadratic(rt, "quadratic 0, 2, -4:", 0.0, 2.0, -4.0)?;
+    show_quadratic(rt, "quadratic 1, -0, 0:", 1.0, -0.0, 0.0)?;
+    show_quadratic(rt, "quadratic 0, 2, 0:", 0.0, 2.0, 0.0)?;
+    show_quadratic(rt, "quadratic -1, 3, -2:", -1.0, 3.0, -2.0)?;
+    show_quadratic(rt, "quadratic 0, 0, 1:", 0.0, 0.0, 1.0)?;
+    show_quadratic(rt, "quadratic 1, 2e100, 1:", 1.0, 2e100, 1.0)
 }
 
-fn ranks() {
+fn ranks(rt: &impl Print) -> io::Result<()> {
     let values = [4.0, 2.0, 1.0];
     let signs = [1.0, -1.0];
     let infinity = 1.0 / 0.0;
     show_rank(
-        b"rank of 4 2 1, 4 columns, null 1, 0.25:",
+        rt,
+        "rank of 4 2 1, 4 columns, null 1, 0.25:",
         &values,
         4,
         1,
         0.25,
-    );
+    )?;
     show_rank(
-        b"rank of 4 2 1, 4 columns, null 1, 0.5:",
+        rt,
+        "rank of 4 2 1, 4 columns, null 1, 0.5:",
         &values,
         4,
         1,
         0.5,
-    );
-    show_rank(b"rank of 4 2 1, 1 column, null 1, 0:", &values, 1, 1, 0.0);
-    show_rank(b"rank of 4 2 1, 5 columns, null 1, 0:", &values, 5, 1, 0.0);
+    )?;
     show_rank(
-        b"rank of 1 -1, 3 columns, null 1, -infinity:",
+        rt,
+        "rank of 4 2 1, 1 column, null 1, 0:",
+        &values,
+        1,
+        1,
+        0.0,
+    )?;
+    show_rank(
+        rt,
+        "rank of 4 2 1, 5 columns, null 1, 0:",
+        &values,
+        5,
+        1,
+        0.0,
+    )?;
+    show_rank(
+        rt,
+        "rank of 1 -1, 3 columns, null 1, -infinity:",
         &signs,
         3,
         1,
         -infinity,
-    );
+    )?;
     show_rank(
-        b"rank of 1 -1, null 2^64 - 1:",
+        rt,
+        "rank of 1 -1, null 2^64 - 1:",
         &signs,
         3,
         18446744073709551615,
         -infinity,
-    );
+    )
 }
 
 // Of a list, the first `n` numbers are the marks asked about, here and below.
-fn show_collinear(name: &[u8], marks: [f64; 16], n: usize, side: Side)
+fn show_collinear(
+    rt: &impl Print,
+    name: &str,
+    marks: [f64; 16],
+    n: usize,
+    side: Side,
+) -> io::Result<()>
     requires { n ≤ 16 }
 {
-    print(name);
+    print(rt, name)?;
     let answer = line::points_are_collinear(&marks[..n], side);
     match answer {
-        Collinear::Yes => print(b" yes"),
-        Collinear::No => print(b" no"),
-        Collinear::Refused(k) => print_refused(k),
+        Collinear::Yes => print(rt, " yes")?,
+        Collinear::No => print(rt, " no")?,
+        Collinear::Refused(k) => print_refused(rt, k)?,
     }
-    print(b"\n");
+    print(rt, "\n")
 }
 
 // The first `n` places of a lent list, each number by its bits.
-fn print_places(lent: &[f64; 72], n: usize)
+fn print_places(rt: &impl Print, lent: &[f64; 72], n: usize) -> io::Result<()>
     requires { n ≤ 72 }
 {
-    let mut i = 0;
-    while i < n {
-        print_double(lent[i]);
-        i += 1;
+    for i in 0..n {
+        print_double(rt, lent[i])?;
     }
+    Ok(())
 }
 
 // The refusal, if it is one; five places of a list of 7.0, of which the first `room` were lent; and
 // the last column of the matrix.
-fn show_normalized(name: &[u8], marks: [f64; 16], n: usize, side: Side, room: usize)
+fn show_normalized(
+    rt: &impl Print,
+    name: &str,
+    marks: [f64; 16],
+    n: usize,
+    side: Side,
+    room: usize,
+) -> io::Result<()>
     requires { (n ≤ 16) × (room ≤ 72) }
 {
-    print(name);
+    print(rt, name)?;
     let mut lent = [7.0; 72];
     let answer = linalg::normalize_points_2d(&marks[..n], side, &mut lent[..room]);
     let first = answer.matrix[0];
     let second = answer.matrix[1];
     if answer.refusal != 0 {
-        print_refused(answer.refusal);
+        print_refused(rt, answer.refusal)?;
     }
-    print_places(&lent, 5);
-    print(b", centre");
-    print_double(first.cells[2]);
-    print_double(second.cells[2]);
-    print(b"\n");
+    print_places(rt, &lent, 5)?;
+    print(rt, ", centre")?;
+    print_double(rt, first.cells[2])?;
+    print_double(rt, second.cells[2])?;
+    print(rt, "\n")
 }
 
 // The refusal, or the first mark's two rows.
-fn show_rows(name: &[u8], marks: [f64; 16], n: usize, room: usize)
+fn show_rows(rt: &impl Print, name: &str, marks: [f64; 16], n: usize, room: usize) -> io::Result<()>
     requires { (n ≤ 16) × (room ≤ 72) }
 {
-    print(name);
+    print(rt, name)?;
     let mut lent = [7.0; 72];
     let refusal = homography::dlt_rows(&marks[..n], &mut lent[..room]);
     if refusal != 0 {
-        print_refused(refusal);
+        print_refused(rt, refusal)?;
     } else {
-        print_places(&lent, 18);
+        print_places(rt, &lent, 18)?;
     }
-    print(b"\n");
+    print(rt, "\n")
 }
 
-fn print_distance(h: Model, m: Mark, ratio: f64) {
+fn print_distance(rt: &impl Print, h: Model, m: Mark, ratio: f64) -> io::Result<()> {
     let answer = sheet::distance(h, m, ratio);
     match answer {
-        Measured::Distance(d) => print_double(d),
-        Measured::Beyond => print(b" beyond"),
-        Measured::Refused(k) => print_refused(k),
+        Measured::Distance(d) => print_double(rt, d),
+        Measured::Beyond => print(rt, " beyond"),
+        Measured::Refused(k) => print_refused(rt, k),
     }
 }
 
-fn show_distance(name: &[u8], h: Model, m: Mark, ratio: f64) {
-    print(name);
-    print_distance(h, m, ratio);
-    print(b"\n");
+fn show_distance(rt: &impl Print, name: &str, h: Model, m: Mark, ratio: f64) -> io::Result<()> {
+    print(rt, name)?;
+    print_distance(rt, h, m, ratio)?;
+    print(rt, "\n")
 }
 
 // The five marks of 01's square, the last printed three too far down.
-fn show_square(name: &[u8], h: Model) {
-    print(name);
-    print_distance(h, at(0.0, 0.0, 0.0, 0.0), 1.0);
-    print_distance(h, at(100.0, 0.0, 100.0, 0.0), 1.0);
-    print_distance(h, at(100.0, 100.0, 100.0, 100.0), 1.0);
-    print_distance(h, at(0.0, 100.0, 0.0, 100.0), 1.0);
-    print_distance(h, at(50.0, 50.0, 50.0, 53.0), 1.0);
-    print(b"\n");
+fn show_square(rt: &impl Print, name: &str, h: Model) -> io::Result<()> {
+    print(rt, name)?;
+    print_distance(rt, h, at(0.0, 0.0, 0.0, 0.0), 1.0)?;
+    print_distance(rt, h, at(100.0, 0.0, 100.0, 0.0), 1.0)?;
+    print_distance(rt, h, at(100.0, 100.0, 100.0, 100.0), 1.0)?;
+    print_distance(rt, h, at(0.0, 100.0, 0.0, 100.0), 1.0)?;
+    print_distance(rt, h, at(50.0, 50.0, 50.0, 53.0), 1.0)?;
+    print(rt, "\n")
 }
 
 fn at(x: f64, y: f64, u: f64, v: f64) -> Mark {
@@ -231,7 +268,7 @@ fn sheet_line() -> [f64; 16] {
     )
 }
 
-fn lines() {
+fn lines(rt: &impl Print) -> io::Result<()> {
     let origin = at(0.0, 0.0, 0.0, 0.0);
     let nearly = list(
         origin,
@@ -242,25 +279,27 @@ fn lines() {
     let straight = sheet_line();
     let wide = list(origin, at(2e9, 0.0, 0.0, 0.0), origin, origin);
     show_collinear(
-        b"collinear (0,0) (0.0005,0) (0,0.001):",
+        rt,
+        "collinear (0,0) (0.0005,0) (0,0.001):",
         nearly,
         12,
         Side::Sheet,
-    );
-    show_collinear(b"collinear two points:", straight, 8, Side::Sheet);
-    show_collinear(b"collinear no points:", straight, 0, Side::Sheet);
+    )?;
+    show_collinear(rt, "collinear two points:", straight, 8, Side::Sheet)?;
+    show_collinear(rt, "collinear no points:", straight, 0, Side::Sheet)?;
     show_collinear(
-        b"collinear (0,0) (1,0) (2,0) (3,0):",
+        rt,
+        "collinear (0,0) (1,0) (2,0) (3,0):",
         straight,
         16,
         Side::Sheet,
-    );
-    show_collinear(b"collinear their pixels:", straight, 16, Side::Pixel);
-    show_collinear(b"collinear 7 numbers:", straight, 7, Side::Sheet);
-    show_collinear(b"collinear x = 2e9:", wide, 16, Side::Pixel);
+    )?;
+    show_collinear(rt, "collinear their pixels:", straight, 16, Side::Pixel)?;
+    show_collinear(rt, "collinear 7 numbers:", straight, 7, Side::Sheet)?;
+    show_collinear(rt, "collinear x = 2e9:", wide, 16, Side::Pixel)
 }
 
-fn normalisings() {
+fn normalisings(rt: &impl Print) -> io::Result<()> {
     let origin = at(0.0, 0.0, 0.0, 0.0);
     let pair = list(
         at(1.0, 1.0, 0.0, 0.0),
@@ -274,22 +313,30 @@ fn normalisings() {
         origin,
         origin,
     );
-    show_normalized(b"normalising (1,1) (-1,-1):", pair, 8, Side::Sheet, 4);
-    show_normalized(b"normalising (-0,1) (-0,3):", signed, 8, Side::Sheet, 5);
-    show_normalized(b"normalising two at (0,0):", pair, 8, Side::Pixel, 4);
-    show_normalized(b"normalising (0,0) (2^-51,0):", signed, 8, Side::Pixel, 4);
-    show_normalized(b"normalising no points:", pair, 0, Side::Sheet, 4);
+    show_normalized(rt, "normalising (1,1) (-1,-1):", pair, 8, Side::Sheet, 4)?;
+    show_normalized(rt, "normalising (-0,1) (-0,3):", signed, 8, Side::Sheet, 5)?;
+    show_normalized(rt, "normalising two at (0,0):", pair, 8, Side::Pixel, 4)?;
     show_normalized(
-        b"normalising two points, 3 places:",
+        rt,
+        "normalising (0,0) (2^-51,0):",
+        signed,
+        8,
+        Side::Pixel,
+        4,
+    )?;
+    show_normalized(rt, "normalising no points:", pair, 0, Side::Sheet, 4)?;
+    show_normalized(
+        rt,
+        "normalising two points, 3 places:",
         pair,
         8,
         Side::Sheet,
         3,
-    );
+    )
 }
 
 // The square around the origin: its normalised points are its own.
-fn rows() {
+fn rows(rt: &impl Print) -> io::Result<()> {
     let square = list(
         at(1.0, 1.0, 1.0, 1.0),
         at(-1.0, 1.0, -1.0, 1.0),
@@ -303,11 +350,17 @@ fn rows() {
         at(0.0, 2.0, 2.0, 0.0),
         at(3.0, 3.0, 3.0, 0.0),
     );
-    show_rows(b"rows of four marks, 71 places:", square, 16, 71);
-    show_rows(b"rows of three marks:", square, 12, 72);
-    show_rows(b"rows, sheet on a line:", sheet, 16, 72);
-    show_rows(b"rows, pixels on a line:", pixel, 16, 72);
-    show_rows(b"rows of (1,1), the first of four marks:", square, 16, 72);
+    show_rows(rt, "rows of four marks, 71 places:", square, 16, 71)?;
+    show_rows(rt, "rows of three marks:", square, 12, 72)?;
+    show_rows(rt, "rows, sheet on a line:", sheet, 16, 72)?;
+    show_rows(rt, "rows, pixels on a line:", pixel, 16, 72)?;
+    show_rows(
+        rt,
+        "rows of (1,1), the first of four marks:",
+        square,
+        16,
+        72,
+    )
 }
 
 // The identity but for h5, h6, h7 and h8.
@@ -325,128 +378,141 @@ fn model(h5: f64, h6: f64, h7: f64, h8: f64) -> Model {
     }
 }
 
-fn distances() {
+fn distances(rt: &impl Print) -> io::Result<()> {
     let middle = at(50.0, 50.0, 50.0, 53.0);
     let wide = at(1e9, 1e9, 0.0, 2e9);
     let none = 0.0 / 0.0;
     show_distance(
-        b"distance under I of (50,50) at pixel (50,53):",
+        rt,
+        "distance under I of (50,50) at pixel (50,53):",
         model(0.0, 0.0, 0.0, 1.0),
         middle,
         1.0,
-    );
+    )?;
     show_distance(
-        b"distance with h5 = 3:",
+        rt,
+        "distance with h5 = 3:",
         model(3.0, 0.0, 0.0, 1.0),
         middle,
         1.0,
-    );
+    )?;
     show_distance(
-        b"distance with h5 = 1e200:",
+        rt,
+        "distance with h5 = 1e200:",
         model(1e200, 0.0, 0.0, 1.0),
         middle,
         1.0,
-    );
+    )?;
     show_distance(
-        b"distance with h8 a NaN, and v = 2e9:",
+        rt,
+        "distance with h8 a NaN, and v = 2e9:",
         model(0.0, 0.0, 0.0, none),
         wide,
         1.0,
-    );
+    )?;
     show_distance(
-        b"distance with v = 2e9:",
+        rt,
+        "distance with v = 2e9:",
         model(0.0, 0.0, 0.0, 1.0),
         wide,
         1.0,
-    );
+    )
 }
 
-fn horizons() {
+fn horizons(rt: &impl Print) -> io::Result<()> {
     let far = at(1e9, 1e9, 0.0, 0.0);
-    show_square(b"distances of the square:", model(0.0, 0.0, 0.0, 1.0));
+    show_square(rt, "distances of the square:", model(0.0, 0.0, 0.0, 1.0))?;
     show_square(
-        b"distances of the square with h8 = -1:",
+        rt,
+        "distances of the square with h8 = -1:",
         model(0.0, 0.0, 0.0, -1.0),
-    );
+    )?;
     show_square(
-        b"distances of the square with s = 50 - x:",
+        rt,
+        "distances of the square with s = 50 - x:",
         model(0.0, -1.0, 0.0, 50.0),
-    );
+    )?;
     show_square(
-        b"distances of the square with s = 0:",
+        rt,
+        "distances of the square with s = 0:",
         model(0.0, 0.0, 0.0, 0.0),
-    );
+    )?;
     show_distance(
-        b"distance with s a NaN:",
+        rt,
+        "distance with s a NaN:",
         model(0.0, 1e308, -1e308, 1.0),
         far,
         1.0,
-    );
+    )?;
     show_distance(
-        b"distance with s infinite:",
+        rt,
+        "distance with s infinite:",
         model(0.0, 1e300, 0.0, 1.0),
         far,
         1.0,
-    );
+    )
 }
 
 // A mark three too far down, and one that is four too far right and one and a half too far down, by
 // ratios within the limits and outside.
-fn ratios() {
+fn ratios(rt: &impl Print) -> io::Result<()> {
     let here = model(0.0, 0.0, 0.0, 1.0);
     let low = at(50.0, 50.0, 50.0, 53.0);
     let aside = at(50.0, 50.0, 54.0, 51.5);
     let infinity = 1.0 / 0.0;
-    show_distance(b"distance by ratio 2:", here, low, 2.0);
-    show_distance(b"distance by ratio 0.5:", here, low, 0.5);
-    show_distance(b"distance of (4,1.5) off by ratio 2:", here, aside, 2.0);
-    show_distance(b"distance by ratio 0.01:", here, low, 0.01);
-    show_distance(b"distance by ratio 100:", here, low, 100.0);
+    show_distance(rt, "distance by ratio 2:", here, low, 2.0)?;
+    show_distance(rt, "distance by ratio 0.5:", here, low, 0.5)?;
+    show_distance(rt, "distance of (4,1.5) off by ratio 2:", here, aside, 2.0)?;
+    show_distance(rt, "distance by ratio 0.01:", here, low, 0.01)?;
+    show_distance(rt, "distance by ratio 100:", here, low, 100.0)?;
     show_distance(
-        b"distance by the ratio before 0.01:",
+        rt,
+        "distance by the ratio before 0.01:",
         here,
         low,
         0.009999999999999998,
-    );
+    )?;
     show_distance(
-        b"distance by the ratio after 100:",
+        rt,
+        "distance by the ratio after 100:",
         here,
         low,
         100.00000000000001,
-    );
-    show_distance(b"distance by ratio 0:", here, low, 0.0);
-    show_distance(b"distance by ratio -1:", here, low, -1.0);
-    show_distance(b"distance by ratio infinity:", here, low, infinity);
-    show_distance(b"distance by ratio NaN:", here, low, infinity - infinity);
+    )?;
+    show_distance(rt, "distance by ratio 0:", here, low, 0.0)?;
+    show_distance(rt, "distance by ratio -1:", here, low, -1.0)?;
+    show_distance(rt, "distance by ratio infinity:", here, low, infinity)?;
+    show_distance(rt, "distance by ratio NaN:", here, low, infinity - infinity)
 }
 
 // 1, then 6, then 16; beyond where none of them is.
-fn ratios_in_order() {
+fn ratios_in_order(rt: &impl Print) -> io::Result<()> {
     let behind = model(0.0, 0.0, 0.0, -1.0);
     let none = model(0.0, 0.0, 0.0, 0.0 / 0.0);
     let low = at(50.0, 50.0, 50.0, 53.0);
     let wide = at(50.0, 50.0, 50.0, 2e9);
     show_distance(
-        b"distance with h8 a NaN, v = 2e9 and ratio 0:",
+        rt,
+        "distance with h8 a NaN, v = 2e9 and ratio 0:",
         none,
         wide,
         0.0,
-    );
-    show_distance(b"distance with h8 a NaN and ratio 0:", none, low, 0.0);
-    show_distance(b"distance with v = 2e9 and ratio 0:", behind, wide, 0.0);
-    show_distance(b"distance with h8 = -1 and ratio 0:", behind, low, 0.0);
-    show_distance(b"distance with h8 = -1 and ratio 2:", behind, low, 2.0);
+    )?;
+    show_distance(rt, "distance with h8 a NaN and ratio 0:", none, low, 0.0)?;
+    show_distance(rt, "distance with v = 2e9 and ratio 0:", behind, wide, 0.0)?;
+    show_distance(rt, "distance with h8 = -1 and ratio 0:", behind, low, 0.0)?;
+    show_distance(rt, "distance with h8 = -1 and ratio 2:", behind, low, 2.0)
 }
 
-fn main() {
-    roots();
-    quadratics();
-    ranks();
-    lines();
-    normalisings();
-    rows();
-    distances();
-    horizons();
-    ratios();
-    ratios_in_order();
+fn main(rt: HostRuntime) -> io::Result<()> {
+    roots(&rt)?;
+    quadratics(&rt)?;
+    ranks(&rt)?;
+    lines(&rt)?;
+    normalisings(&rt)?;
+    rows(&rt)?;
+    distances(&rt)?;
+    horizons(&rt)?;
+    ratios(&rt)?;
+    ratios_in_order(&rt)
 }
