@@ -19,7 +19,7 @@ fn main() {
         println!("cargo:rerun-if-changed={}", archive.display());
         assert!(
             archive.exists(),
-            "no {}: run `rt staticlib {name}` first",
+            "no {}: run `.ci/archives` first",
             archive.display()
         );
         println!("cargo:rustc-link-lib=static={name}");

@@ -7,7 +7,6 @@ use native.Mathlib.Nat.{le_refl, le_of_lt, le_of_eq}
 use native.Mathlib.Omega.{arith}
 use borrow.Author.Tests.{ltb-true, ltb-false, lt-ltb, eq-eqb}
 use lib.Dec.{T, ltb, eqb, ltb→lt, eqb→eq}
-use lib.IntN.{ℤ}
 use lib.Ieee.{Float, nan, inf, fin, up, down, lt, le, eq}
 use lib.Ieee.Fits.{down_pos, and_l}
 use lib.Ieee.Positive.{through}

@@ -22,13 +22,13 @@ pub fn open_record(bytes: &[u8], marks: &[f64], stops: &[u32]) -> Opened
 }
 
 pub fn trial(s: State, bytes: &[u8], marks: &[f64], stops: &[u32]) -> Tried
-    ensures { Tries s (record { bytes = bytes.entry.now; marks = marks.now; stops = stops.now }) result.state (record { outcome = result.outcome; beyond = result.beyond }) }
+    ensures { Tries s (record { bytes = bytes.now; marks = marks.now; stops = stops.now }) result.state (record { outcome = result.outcome; beyond = result.beyond }) }
 {
     pick::trial(s, bytes, marks, stops)
 }
 
 pub fn step(s: State, bytes: &[u8], marks: &[f64], stops: &[u32]) -> Tried
-    ensures { Stepped s (record { bytes = bytes.entry.now; marks = marks.now; stops = stops.now }) result.state (record { outcome = result.outcome; beyond = result.beyond }) }
+    ensures { Stepped s (record { bytes = bytes.now; marks = marks.now; stops = stops.now }) result.state (record { outcome = result.outcome; beyond = result.beyond }) }
 {
     pick::step(s, bytes, marks, stops)
 }
@@ -47,7 +47,7 @@ pub fn run(
     winner: &mut [u8],
     indices: &mut [u8],
 ) -> u32
-    ensures { Ran (record { options = options.entry.now; marks = marks.now; stops = stops.now; trials = trials.now }) winner.old indices.old result winner.new indices.new }
+    ensures { Ran (record { options = options.now; marks = marks.now; stops = stops.now; trials = trials.now }) winner.old indices.old result winner.new indices.new }
 {
     salghemu::salghemu_run(options, marks, stops, trials, winner, indices)
 }

@@ -24,7 +24,6 @@ use Rattle.book.specs.Score.{Options, count_in, scored, turned_down, count_under
 use Rattle.book.proofs.Clear.{count-within}
 use Rattle.records.specs.Trial.{trial_record, trial_answer, trial_of, view_recorded}
 use Rattle.records.specs.declared.trial.Recorded.{Recorded}
-use Rattle.records.specs.declared.trial.Recorded.TheVariants as Recorded
 use Rattle.records.specs.declared.trial.Refitted.{Refitted}
 use Rattle.records.specs.declared.options.RansacOptions.{RansacOptions}
 use Rattle.measure.specs.Distances.{distances_of, beyond_of, squares_of}

@@ -233,9 +233,9 @@ pub fn count_support(
     squares: &mut [f64; 2000],
     counting: bool,
 ) -> Found
-    ensures finding_value { view_finding (rms_under o marks.now) result.finding ≡ judge_tested o n (record { bytes = bytes.entry.now; marks = marks.now; stops = stops.now }) }
-    ensures beyond_value { result.beyond ≡ if_counted counting (beyond_by (tested_tests n (record { bytes = bytes.entry.now; marks = marks.now; stops = stops.now })) (record { bytes = bytes.entry.now; marks = marks.now; stops = stops.now })) }
-    ensures squares_after { squares.new ≡ squares_left o n (record { bytes = bytes.entry.now; marks = marks.now; stops = stops.now }) squares.old }
+    ensures finding_value { view_finding (rms_under o marks.now) result.finding ≡ judge_tested o n (record { bytes = bytes.now; marks = marks.now; stops = stops.now }) }
+    ensures beyond_value { result.beyond ≡ if_counted counting (beyond_by (tested_tests n (record { bytes = bytes.now; marks = marks.now; stops = stops.now })) (record { bytes = bytes.now; marks = marks.now; stops = stops.now })) }
+    ensures squares_after { squares.new ≡ squares_left o n (record { bytes = bytes.now; marks = marks.now; stops = stops.now }) squares.old }
 {
     let refusal = check_call(n, marks, stops);
     if refusal != 0 {
@@ -274,8 +274,8 @@ fn scored_with(s: Support, thresh: f64, squares: &[f64]) -> Verdict
 
 // Judges a trial of a run of `n` marks. The numbers of the marks are not tested either.
 pub fn judge(o: RansacOptions, n: usize, bytes: &[u8], marks: &[f64], stops: &[u32]) -> Judgement
-    ensures verdict_value { view_verdict result.verdict ≡ judge_tested o n (record { bytes = bytes.entry.now; marks = marks.now; stops = stops.now }) }
-    ensures beyond_value { result.beyond ≡ beyond_by (tested_tests n (record { bytes = bytes.entry.now; marks = marks.now; stops = stops.now })) (record { bytes = bytes.entry.now; marks = marks.now; stops = stops.now }) }
+    ensures verdict_value { view_verdict result.verdict ≡ judge_tested o n (record { bytes = bytes.now; marks = marks.now; stops = stops.now }) }
+    ensures beyond_value { result.beyond ≡ beyond_by (tested_tests n (record { bytes = bytes.now; marks = marks.now; stops = stops.now })) (record { bytes = bytes.now; marks = marks.now; stops = stops.now }) }
 {
     let mut squares = [0.0; 2000];
     let found = count_support(o, n, bytes, marks, stops, &mut squares, true);

@@ -9,7 +9,7 @@ use borrow.Author.Tests.{le-ltb, ltb-false}
 use lib.Count.{count_leading_zeros}
 use lib.Dec.{T, ltb, eqb, ltb→lt, eqb→eq}
 use lib.IntN.{ℤ}
-use lib.Ieee.{Float, nan, inf, fin, binary64, up, down, of_bits, to_bits, fits, below, level, lt, le, eq}
+use lib.Ieee.{Float, nan, inf, fin, binary64, up, down, of_bits, to_bits, fits, level, lt, le, eq}
 use lib.Ieee.Fits.{add-fits, and_l}
 use lib.Ieee.Bits.{of_bits-fits}
 use lib.Ieee.Positive.{positive, above, above_of_le, cross→le, le_trans_positive}

@@ -81,8 +81,8 @@ pub fn advance(
     stops: &[u32],
     squares: &mut [f64; 2000],
 ) -> Next
-    ensures result_value { view_next result ≡ next_of (step_booking (view_state s) (record { bytes = bytes.entry.now; marks = marks.now; stops = stops.now })) }
-    ensures squares_after { squares.new ≡ squares_then (view_state s) (record { bytes = bytes.entry.now; marks = marks.now; stops = stops.now }) squares.old }
+    ensures result_value { view_next result ≡ next_of (step_booking (view_state s) (record { bytes = bytes.now; marks = marks.now; stops = stops.now })) }
+    ensures squares_after { squares.new ≡ squares_then (view_state s) (record { bytes = bytes.now; marks = marks.now; stops = stops.now }) squares.old }
 {
     if booking::is_closed(s.read, s.empty, s.few, s.scored, s.bound) {
         return Next::Refused(rule::ENDED);

@@ -149,7 +149,7 @@ fn answered(s: State, j: Judgement) -> Tried
 
 // One trial over marks that were tested before: refused with 10, 5, 7, 8 or 1, in this order.
 pub fn step(s: State, bytes: &[u8], marks: &[f64], stops: &[u32]) -> Tried
-    ensures { view_tried result ≡ step_answer (view_state s) (record { bytes = bytes.entry.now; marks = marks.now; stops = stops.now }) }
+    ensures { view_tried result ≡ step_answer (view_state s) (record { bytes = bytes.now; marks = marks.now; stops = stops.now }) }
 {
     if booking::is_closed(s.read, s.empty, s.few, s.scored, s.bound) {
         return refused(s, rule::ENDED);
@@ -160,7 +160,7 @@ pub fn step(s: State, bytes: &[u8], marks: &[f64], stops: &[u32]) -> Tried
 
 // One trial; refused with 10, 5, 6, 7, 8 or 1, in this order.
 pub fn trial(s: State, bytes: &[u8], marks: &[f64], stops: &[u32]) -> Tried
-    ensures { view_tried result ≡ trial_answer (view_state s) (record { bytes = bytes.entry.now; marks = marks.now; stops = stops.now }) }
+    ensures { view_tried result ≡ trial_answer (view_state s) (record { bytes = bytes.now; marks = marks.now; stops = stops.now }) }
 {
     if booking::is_closed(s.read, s.empty, s.few, s.scored, s.bound) {
         return refused(s, rule::ENDED);

@@ -11,7 +11,7 @@ pub(crate) fn read_file<R: Files>(rt: &R, path: &str, buffer: &mut [u8]) -> usiz
     ensures { Counts result buffer.new }
 {
     match fs::open(rt, path) {
-        Ok(mut file) => reading::read_available(&mut file, buffer),
+        Ok(mut file) => reading::read_full(&mut file, buffer),
         Err(_) => 0,
     }
 }
@@ -53,12 +53,12 @@ fn read_mark_bytes<R: Files>(rt: &R, bytes: &mut [u8; 64000]) -> usize
 {
     match fs::open(rt, "marks.bin") {
         Ok(mut file) => {
-            let len = reading::read_available(&mut file, bytes);
+            let len = reading::read_full(&mut file, bytes);
             if len < 64000 {
                 return len;
             }
             let mut past = [0u8; 1];
-            let more = reading::read_available(&mut file, &mut past);
+            let more = reading::read_full(&mut file, &mut past);
             len + more
         }
         Err(_) => 0,

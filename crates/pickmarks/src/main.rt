@@ -38,7 +38,7 @@ fn next_trial<F: Read>(
     stops: &[u32],
 ) -> io::Result<Turn> {
     let mut record = [0u8; 152];
-    let len = reading::read_available(file, &mut record);
+    let len = reading::read_full(file, &mut record);
     if len == 0 {
         return Ok(Turn::End);
     }

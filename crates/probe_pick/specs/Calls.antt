@@ -13,9 +13,9 @@ use Rattle.probe_pick.specs.Words.{run_words, tried_words, run_in}
 abbrev pub NO_WORDS : ℕ
 NO_WORDS = 0xffff_ffff
 
-abbrev pub options_of : (thresh confidence : Float) (max◌iters min◌inliers : ℕ) (refit : Bool) (ratio : Float) → RansacOptions
-options_of thresh confidence max◌iters min◌inliers refit ratio =
-    record { thresh = thresh; confidence = confidence; max_iters = max◌iters; min_inliers = min◌inliers; refit = refit; ratio = ratio }
+abbrev pub options_of : (thresh confidence : Float) (max_iters min_inliers : ℕ) (refit : Bool) (ratio : Float) → RansacOptions
+options_of thresh confidence max_iters min_inliers refit ratio =
+    record { thresh = thresh; confidence = confidence; max_iters = max_iters; min_inliers = min_inliers; refit = refit; ratio = ratio }
 
 -- ---- the maker of options
 

@@ -96,7 +96,7 @@ pub extern "C" fn probe_trial(
     out: &mut [u64],
 ) -> u32
     ensures value { result ≡ tried_number state.now out.old }
-    ensures out_after { out.new ≡ tried_after state.now (record { bytes = bytes.entry.now; marks = marks.now; stops = stops.now }) out.old }
+    ensures out_after { out.new ≡ tried_after state.now (record { bytes = bytes.now; marks = marks.now; stops = stops.now }) out.old }
 {
     if state.len() < 25 {
         return NO_WORDS;

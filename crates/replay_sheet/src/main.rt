@@ -168,23 +168,23 @@ fn agrees(kind: u64, record: &[u8]) -> bool {
     }
 }
 
-// The list to its end, up to a number of records that no list has.
-fn replay_all<F: Read>(file: &mut F) -> io::Result<Scores> {
+// The list to its end, up to a number of records that no list has. A read that fails is its end.
+fn replay_all<F: Read>(file: &mut F) -> Scores {
     let mut scores = tally::no_scores();
     for _ in 0..1000000 {
         let mut record = [0u8; 1024];
-        if reading::read_full(file, &mut record)? < 1024 {
-            return Ok(scores);
+        if reading::read_full(file, &mut record) < 1024 {
+            return scores;
         }
         let kind = fields::long_at(&record, 0);
         scores = tally::counted(scores, kind, agrees(kind, &record));
     }
-    Ok(scores)
+    scores
 }
 
 fn main(rt: HostRuntime) -> io::Result<()> {
     let mut file = File::open(&rt, "sheets.bin")?;
-    let scores = replay_all(&mut file)?;
+    let scores = replay_all(&mut file);
     tally::print_scores(
         &rt,
         scores,

@@ -10,7 +10,7 @@ units nan = 0
 units (inf s) = 2 ^ 2098
 units (fin s m e) = m * up e * 2 ^ 1074 / down e
 
--- The neighbours of a positive double, IEEE 754's next_up and nextDown: the bit patterns of the positive doubles stand in the doubles' order.
+-- The neighbours of a positive double, IEEE 754's nextUp and nextDown: the bit patterns of the positive doubles stand in the doubles' order.
 unfoldable pub next_up : Float → Float
 next_up x = of_bits binary64 (to_bits binary64 x + 1)
 

@@ -1,11 +1,10 @@
 -- Tests and what they say: small facts on Booleans and on the order of numbers that the proofs above share. Assumes nothing.
 use mathlib.Core.Path.{◌≡◌, refl, sym, ◌∙◌}
 use mathlib.Core.Logic.{◌⊎◌, inl, inr}
-use mathlib.Core.Bool.{Bool, true, false, not, ◌&&◌, ◌||◌, true≢false}
+use mathlib.Core.Bool.{Bool, true, false, ◌&&◌, ◌||◌, true≢false}
 use Prim.Native.Nat.{ℕ, ◌≤◌, ◌<◌}
 use native.Mathlib.Nat.{lt_of_not-le}
 use native.Mathlib.Decide.{dec_le}
-use borrow.Author.Tests.{not-true, not-false}
 use lib.Dec.{T}
 
 pub le_or_gt : (a b : ℕ) → (a ≤ b) ⊎ (b < a)

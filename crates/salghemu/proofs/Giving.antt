@@ -33,7 +33,6 @@ use Rattle.pick.specs.declared.run_state.Best.TheVariants.{Nothing, Held}
 use Rattle.pick.specs.declared.run_state.State.{State}
 use Rattle.salghemu.specs.Whole.{after_tests, won_by, result_of, number_of, winner_bytes, index_bytes, laid_over, written, Gave, view_ran}
 use Rattle.salghemu.specs.declared.Ran.{Ran}
-use Rattle.salghemu.specs.declared.Ran.TheVariants as Ran
 
 -- ---- by the tests
 

@@ -20,7 +20,6 @@ use Rattle.score.specs.Places.{indices_in}
 use Rattle.judge.specs.Judging.{rule_of, Call, judge_of}
 use Rattle.pick.specs.Run.{book_of}
 use Rattle.salghemu.specs.declared.Ran.{Ran}
-use Rattle.salghemu.specs.declared.Ran.TheVariants as Ran
 
 -- what is handed in: bytes, and the lengths of what is lent
 pub record Files : Type 0 where

@@ -1,5 +1,4 @@
 -- `fields::read_words` meets its contract. Assumes nothing.
-use Prim.Native.Nat.{◌-◌}
 use native.Mathlib.Omega.{arith}
 use borrow.Author.Rules.{rules}
 use Rattle.rule.proofs.Lists.{stored_none, stored_no_room, stored_same, stored_more, stored_all}

@@ -1,6 +1,5 @@
 -- `fields::zero_bytes` meets its contract. Assumes nothing.
 use mathlib.Core.Path.{refl, sym, ◌∙◌}
-use Prim.Native.Nat.{◌-◌}
 use native.Mathlib.Omega.{arith}
 use Rattle.fields.proofs.Reading.{zero_next, zero_stops, zero_end}
 use Rattle.fields.proofs.zero_bytes.Goals as goal

@@ -1,5 +1,4 @@
 -- `homography::write_rows` meets its contract. Assumes nothing.
-use Prim.Native.Nat.{◌-◌}
 use native.Mathlib.Omega.{arith}
 use borrow.Author.Rules.{rules}
 use Rattle.homography.proofs.Writing.{rows_none, rows_same, rows_more, rows_all}

@@ -1,5 +1,5 @@
 -- `linalg::centroid` meets its contract. Assumes nothing.
-use Rattle.std.proofs.Common.{◌-◌, ◌<◌, length, arith, rules}
+use Rattle.std.proofs.Common.{◌<◌, length, arith, rules}
 use Rattle.sheet.specs.Marks.{marks_of}
 use Rattle.linalg.specs.Normalize.{centroid_of}
 use Rattle.linalg.proofs.Sums.{owed_all, owed_next, owed_mean}

@@ -1,6 +1,6 @@
 -- `linalg::mean_distance` meets its contract. Assumes nothing.
-use Rattle.std.proofs.Common.{◌+◌, ◌-◌, ◌<◌, length, arith, rules}
-use Rattle.sheet.specs.Marks.{marks_of, squared_apart}
+use Rattle.std.proofs.Common.{◌+◌, ◌<◌, length, arith, rules}
+use Rattle.sheet.specs.Marks.{marks_of}
 use Rattle.linalg.specs.Normalize.{mean_distance}
 use Rattle.linalg.proofs.Sums.{owed_all, owed_next, owed_two, owed_mean}
 use Rattle.linalg.proofs.mean_distance.Invariants.{away}

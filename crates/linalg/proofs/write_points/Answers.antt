@@ -1,5 +1,5 @@
 -- `linalg::write_points` meets its contract. Assumes nothing.
-use Rattle.std.proofs.Common.{◌-◌, arith, rules}
+use Rattle.std.proofs.Common.{arith, rules}
 use Rattle.linalg.proofs.Writing.{points_none, points-same, points-more, points-all}
 use Rattle.linalg.proofs.write_points.Goals as goal
 

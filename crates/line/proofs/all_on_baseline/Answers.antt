@@ -1,6 +1,5 @@
 -- `line::all_on_baseline` meets its contract. Assumes nothing.
 use mathlib.Core.Path.{refl}
-use Prim.Native.Nat.{◌-◌}
 use Rattle.line.specs.Collinear.{on_baseline}
 use Rattle.line.proofs.Baseline.{unseen_next, unseen_stops, unseen_none}
 use Rattle.line.proofs.all_on_baseline.Goals as goal

@@ -1,6 +1,5 @@
 -- `measure::squared_residuals` meets its contract. Assumes nothing.
 use Rattle.measure.proofs.Squares.{measured_none, no_room, measured_same, measured_next, measured_past, measured_all}
-use Prim.Native.Nat.{◌-◌}
 use native.Mathlib.Omega.{arith}
 use borrow.Author.Rules.{rules}
 use Rattle.measure.proofs.squared_residuals.Goals as goal

@@ -7,5 +7,5 @@ use Rattle.reading.proofs.read_full.Goals as goal
 
 pub loop-at-preserved : goal.loop-at-preserved
 loop-at-preserved g c =
-    let joined = take-put_mid c.loop-at.at c.in_ok-n.n _ c.loop-at.buffer c.read.new.buf c.loop-at.invariant.1 c.in_ok-n.ensures.bound.0 in
-    (search rules, search rules, subst (Consumes _ _) joined (Consumes-trans _ _ _ _ _ c.loop-at.invariant.2 c.in_ok-n.ensures.bytes.0))
+    let joined = take-put_mid c.loop-at.at c.in-Ok.n _ c.loop-at.buffer c.read.new.buf c.loop-at.invariant.1 c.in-Ok.ensures.bound.0 in
+    (search rules, search rules, subst (Consumes _ _) joined (Consumes-trans _ _ _ _ _ c.loop-at.invariant.2 c.in-Ok.ensures.bytes.0))

@@ -1,6 +1,5 @@
 -- `root::after_digits` meets its contract. The loop's invariant: after i digits the state is what `Holds` says. The measure is the digits left. Assumes nothing.
 use mathlib.Core.Path.{◌≡◌}
-use Prim.Native.Nat.{◌-◌}
 use native.Mathlib.Numerals.{add-one}
 use native.Mathlib.Omega.{arith}
 use Rattle.root.proofs.Whole.{begun, holds_next, ready}

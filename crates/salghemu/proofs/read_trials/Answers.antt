@@ -3,7 +3,7 @@ use native.Mathlib.Omega.{arith}
 use borrow.Author.Rules.{rules}
 use Rattle.salghemu.proofs.Going.{going_none, going_late, going_broken, going_on, going_out, going_own, going_back}
 use native.Mathlib.Nat.{add-sub_cancel_left}
-use Prim.Native.Nat.{◌*◌, ◌-◌}
+use Prim.Native.Nat.{◌*◌}
 use Rattle.salghemu.proofs.read_trials.Goals as goal
 
 pub loop-i-init : goal.loop-i-init

@@ -1,7 +1,6 @@
 -- `score::count_by_roots` meets its contract. Assumes nothing.
 use native.Mathlib.Omega.{arith}
 use borrow.Author.Rules.{rules}
-use Prim.Native.Nat.{◌-◌}
 use Rattle.score.proofs.Walk.{close-none, close_next, close-all}
 use Rattle.score.proofs.count_by_roots.Goals as goal
 

@@ -2,7 +2,6 @@
 use native.Mathlib.Omega.{arith}
 use borrow.Author.Rules.{rules}
 use Rattle.score.proofs.Least.{least-none, least_next, least_part}
-use Prim.Native.Nat.{◌-◌}
 use Rattle.score.proofs.least_sum.Goals as goal
 
 pub loop-i-init : goal.loop-i-init

@@ -1,7 +1,6 @@
 -- `score::sum_squares` meets its contract. Assumes nothing.
 use native.Mathlib.Omega.{arith}
 use borrow.Author.Rules.{rules}
-use Prim.Native.Nat.{◌-◌}
 use Rattle.score.specs.Limits.{with_waiting}
 use Rattle.score.proofs.Walk.{summed_none, summed_next, summed_all}
 use Rattle.score.proofs.Bounds.{settled_own}

@@ -1,7 +1,6 @@
 -- `score::tally_of` meets its contract. Assumes nothing.
 use native.Mathlib.Omega.{arith}
 use borrow.Author.Rules.{rules}
-use Prim.Native.Nat.{◌-◌}
 use Rattle.score.proofs.Walk.{between_none, between_next, between_all}
 use Rattle.score.proofs.tally_of.Goals as goal
 

@@ -4,7 +4,6 @@ use borrow.Author.Rules.{rules}
 use Rattle.root.specs.Root.{root_of}
 use lib.Ieee.{nan}
 use mathlib.Core.List.{map}
-use Prim.Native.Nat.{◌-◌}
 use Rattle.score.proofs.Walk.{ds_length, placed_none, placed_inside, placed_length, placed_same, placed_more, placed_done, not_a_place, too_many}
 use Rattle.score.proofs.Bounds.{settled_own, own_test}
 use Rattle.score.proofs.write_inliers.Goals as goal

@@ -1,6 +1,5 @@
 -- `numbers::finite::ensure_finite` meets its contract. The loop's invariant: the answer is that of the numbers from place i on. Assumes nothing.
 use mathlib.Core.Path.{refl, sym, ◌∙◌}
-use Prim.Native.Nat.{◌-◌}
 use native.Mathlib.Omega.{arith}
 use borrow.Author.Rules.{rules}
 use lib.Ieee.{nan}

@@ -1,6 +1,5 @@
 -- `probe_pick::writing::put` meets its contract. Assumes nothing.
 use mathlib.Core.Path.{refl}
-use Prim.Native.Nat.{◌-◌}
 use native.Mathlib.Omega.{arith}
 use borrow.Author.Rules.{rules}
 use Rattle.rule.proofs.Lists.{stored_none, stored_no_room, stored_same, stored_more, stored_all}

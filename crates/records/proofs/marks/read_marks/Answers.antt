@@ -1,5 +1,4 @@
 -- `records::marks::read_marks` meets its contract. Assumes nothing.
-use Prim.Native.Nat.{◌-◌}
 use native.Mathlib.Omega.{arith}
 use borrow.Author.Rules.{rules}
 use Rattle.records.proofs.Reading.{numbers-none, numbers_no_room, numbers-same, numbers_more, numbers-all}

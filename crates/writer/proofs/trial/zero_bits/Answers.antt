@@ -1,6 +1,5 @@
 -- `writer::trial::zero_bits` meets its contract. The loop's invariant: the answer is that of the numbers from place i on. Assumes nothing.
 use mathlib.Core.Path.{refl, sym, ap, ◌∙◌}
-use Prim.Native.Nat.{◌-◌}
 use native.Mathlib.Omega.{arith}
 use borrow.Author.Rules.{rules}
 use borrow.Author.Tests.{eq-eqb, ne_eqb}
