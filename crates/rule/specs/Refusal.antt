@@ -1,5 +1,7 @@
 -- Document 01, 'Refusals', and document 02: the numbers by which an entry turns a call down.
 use Rattle.std.specs.Prelude.{ℕ}
+use Rattle.rule.specs.declared.Refusal.{Refusal}
+use Rattle.rule.specs.declared.Refusal.TheVariants as Refusals
 
 -- a record's length, mark, filler, unmarked number, refit without fit, or a non-finite model
 abbrev pub RECORD : ℕ
@@ -64,3 +66,22 @@ NUMBER = 15
 -- the row ratio is not finite, or not from 0.01 to 100
 abbrev pub RATIO : ℕ
 RATIO = 16
+
+-- the number of each refusal of the code
+abbrev pub number_of : Refusal → ℕ
+number_of Refusals.Record = RECORD
+number_of Refusals.Thresh = THRESH
+number_of Refusals.Confidence = CONFIDENCE
+number_of Refusals.Iters = ITERS
+number_of Refusals.Shape = SHAPE
+number_of Refusals.Point = POINT
+number_of Refusals.Few = FEW
+number_of Refusals.Stops = STOPS
+number_of Refusals.Room = ROOM
+number_of Refusals.Ended = ENDED
+number_of Refusals.NoWinner = NONE
+number_of Refusals.Spread = SPREAD
+number_of Refusals.SheetLine = SHEET_LINE
+number_of Refusals.PixelLine = PIXEL_LINE
+number_of Refusals.Number = NUMBER
+number_of Refusals.Ratio = RATIO

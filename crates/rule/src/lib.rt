@@ -1,6 +1,50 @@
-// The refusals of documents 01 and 02 by name: every entry that turns a call down answers one of these
-// numbers. `specs/Refusal.antt` has the same names for contracts, and what each of them means.
+// The refusals of documents 01 and 02 by name: every entry that turns a call down answers one of them.
+// Their numbers are those that the documents give; `specs/Refusal.antt` has what each of them means.
 #![tactic(auto)]
+
+ghost use Rattle.std.specs.Prelude.{◌≡◌};
+ghost use Rattle.rule.specs.Refusal.{number_of};
+
+use std::error::Error;
+use std::fmt;
+
+#[derive(Clone, Copy, Debug, PartialEq, Eq, Hash)]
+pub enum Refusal {
+    Record = 1,
+    Thresh = 2,
+    Confidence = 3,
+    Iters = 4,
+    Shape = 5,
+    Point = 6,
+    Few = 7,
+    Stops = 8,
+    Room = 9,
+    Ended = 10,
+    NoWinner = 11,
+    Spread = 12,
+    SheetLine = 13,
+    PixelLine = 14,
+    Number = 15,
+    Ratio = 16,
+}
+
+impl From<Refusal> for u32 {
+    ghost from_gives = { λ e n. n ≡ number_of e };
+
+    fn from(e: Refusal) -> u32 {
+        e as u32
+    }
+}
+
+// As the programs print it.
+impl fmt::Display for Refusal {
+    fn fmt<W: fmt::Write>(&self, f: &mut fmt::Formatter<W>) -> fmt::Result {
+        let number = u32::from(*self);
+        write!(f, "refused {number}")
+    }
+}
+
+impl Error for Refusal {}
 
 pub const RECORD: u32 = 1;
 
