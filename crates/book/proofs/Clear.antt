@@ -155,7 +155,7 @@ root-clear (fin false (suc m) e) f c =
 -- ---- the root mean square
 
 pub squares_sum : (thresh sum : Float) (ds : List Float) → T (clear sum) → T (clear (sum_from square sum (those (close thresh) ds)))
-unfolding sum_from those close square
+unfolding close square
 squares_sum thresh sum [] c = c
 squares_sum thresh sum (d ∷ ds) c = go (le d thresh) refl (squares_sum thresh sum ds c) (λ p. squares_sum thresh (sum ⊕ d ⊗ d) ds p)
   where

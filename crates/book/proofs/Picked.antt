@@ -193,20 +193,20 @@ module _ {M : Type 0} (o : Options) where
         ⊎ ((has_ended (book_after o b (take read calls)) ≡ false) × (read < length calls) × ((k : ℕ) × ((get_or calls read empty ≡ turned_down k) × (result ≡ broken k))))
 
   at_end : (b : Book M) → ReadFrom b [] (run_over o b []) 0
-  unfolding outcomes_of book_after run_over every
+  unfolding outcomes_of book_after run_over
   at_end b = record { inside = zero-le; accepted = refl; ends = inl (inr refl, refl) }
 
   at_bound : (b : Book M) (calls : List (Judged M)) → has_ended b ≡ true → ReadFrom b calls (stopped b) 0
-  unfolding outcomes_of book_after every
+  unfolding outcomes_of book_after
   at_bound b calls h = record { inside = zero-le; accepted = refl; ends = inl (inl h, refl) }
 
   at-refused : (b : Book M) (k : ℕ) (js : List (Judged M)) → has_ended b ≡ false → ReadFrom b (turned_down k ∷ js) (broken k) 0
-  unfolding outcomes_of book_after every
+  unfolding outcomes_of book_after
   at-refused b k js h = record { inside = zero-le; accepted = refl; ends = inr (h, zero-lt-suc (length js), (k, (refl, refl))) }
 
   one_more : (b : Book M) (j : Judged M) (js : List (Judged M)) (result : Stopped M) (read : ℕ) → has_ended b ≡ false → is_refusal (entered o b j).outcome ≡ false
       → ReadFrom (entered o b j).book js result read → ReadFrom b (j ∷ js) result (suc read)
-  unfolding outcomes_of book_after every
+  unfolding outcomes_of book_after
   one_more b j js result read h a r = record {
     inside = let i = r.inside in omega arith;
     accepted = rw (called_open o b j h, a) r.accepted;

@@ -51,7 +51,6 @@ map_take f (suc k) [] = refl
 map_take f (suc k) (a ∷ l) = ap (λ r. f a ∷ r) (map_take f k l)
 
 every_map : {A B : Type 0} (test : B → Bool) (f : A → B) (l : List A) → every (λ a. test (f a)) l ≡ every test (map f l)
-unfolding every
 every_map test f [] = refl
 every_map test f (a ∷ l) = ap (λ r. test (f a) && r) (every_map test f l)
 

@@ -19,18 +19,18 @@ use Rattle.fields.proofs.Back.{spelled_back}
 -- ---- bytes
 
 byte_first : (b : ℕ) (l : List ℕ) → T (all_bytes (b ∷ l)) → (b < 256) × T (all_bytes l)
-unfolding all_bytes every
+unfolding all_bytes
 byte_first b l t = (ltb→lt b 256 (and_l (ltb b 256) (every (λ x. ltb x 256) l) t), and_r (ltb b 256) (every (λ x. ltb x 256) l) t)
 
 bytes-taken : (i : ℕ) (l : List ℕ) → T (all_bytes l) → T (all_bytes (take i l))
-unfolding all_bytes every
+unfolding all_bytes
 bytes-taken zero l t = tt
 bytes-taken (suc i) [] t = tt
 bytes-taken (suc i) (b ∷ l) t =
     and_i (ltb b 256) (every (λ x. ltb x 256) (take i l)) (and_l (ltb b 256) (every (λ x. ltb x 256) l) t) (bytes-taken i l (and_r (ltb b 256) (every (λ x. ltb x 256) l) t))
 
 bytes_left : (i : ℕ) (l : List ℕ) → T (all_bytes l) → T (all_bytes (drop i l))
-unfolding all_bytes every
+unfolding all_bytes
 bytes_left zero l t = t
 bytes_left (suc i) [] t = tt
 bytes_left (suc i) (b ∷ l) t = bytes_left i l (and_r (ltb b 256) (every (λ x. ltb x 256) l) t)
@@ -162,7 +162,7 @@ byte_spelled l i h = rw (drop-cons l i 0 h) (omega arith)
 -- ---- zero bytes: they spell 0, and other bytes do not
 
 pub spelled_zero : (l : List ℕ) → every (λ b. eqb b 0) l ≡ eqb (little_endian l) 0
-unfolding every little_endian
+unfolding little_endian
 spelled_zero [] = refl
 spelled_zero (zero ∷ l) = spelled_zero l ∙ same (little_endian l)
   where
@@ -180,7 +180,6 @@ unfolding zero_bytes
 zero_spelled from w l h = ap (every (λ b. eqb b 0)) (middle from w l h) ∙ spelled_zero (take w (drop from l))
 
 pub every_append : {A : Type 0} (test : A → Bool) (k l : List A) → every test (k ++ l) ≡ (every test k && every test l)
-unfolding every
 every_append test [] l = refl
 every_append test (a ∷ k) l = ap (λ b. test a && b) (every_append test k l) ∙ sym (and_assoc (test a) (every test k) (every test l))
   where
@@ -190,7 +189,7 @@ every_append test (a ∷ k) l = ap (λ b. test a && b) (every_append test k l) �
 
 -- as eight-byte fields
 zero_fields : (k : ℕ) (l : List ℕ) → every (λ b. eqb b 0) (take (8 * k) l) ≡ every (λ b. eqb b 0) (map little_endian (first_parts 8 k l))
-unfolding every first_parts
+unfolding first_parts
 zero_fields zero l = refl
 zero_fields (suc k) l =
     let e : 8 * suc k ≡ 8 + 8 * k = omega arith in

@@ -101,7 +101,7 @@ module _ (p0 : Point) where
   near_passes q p h = rw h
 
   pub passed_over : (q : Point) (ps : List Point) → every (on_baseline p0 q) (drop (near_count p0 ps) ps) ≡ every (on_baseline p0 q) ps
-  unfolding near_count every
+  unfolding near_count
   passed_over q [] = refl
   passed_over q (p ∷ ps) = go (apart p0 p) refl (passed_over q ps)
     where

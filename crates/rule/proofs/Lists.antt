@@ -44,26 +44,21 @@ one_by_one (suc n) i l d h = drop-cons l i d (omega (arith, h)) ∙ ap (λ rest.
 
 module _ {A : Type 0} (test : A → Bool) (l : List A) (d : A) where
   pub every_next : (i : ℕ) → i < length l → test (get_or l i d) ≡ true → every test (drop i l) ≡ every test (drop (i + 1) l)
-  unfolding every
   every_next i h t = rw (add-one i, drop-cons l i d h, t)
 
   pub every-stops : (i : ℕ) → i < length l → test (get_or l i d) ≡ false → false ≡ every test (drop i l)
-  unfolding every
   every-stops i h t = rw (drop-cons l i d h, t)
 
   pub every_end : (i : ℕ) → length l ≤ i → true ≡ every test (drop i l)
-  unfolding every
   every_end i h = rw (drop_of_length-le l h)
 
 -- ---- a sum
 
 module _ {A : Type 0} (term : A → Float) (l : List A) (d : A) where
   pub sum_next : (sum : Float) (i : ℕ) → i < length l → sum_from term sum (drop i l) ≡ sum_from term (sum ⊕ term (get_or l i d)) (drop (i + 1) l)
-  unfolding sum_from
   sum_next sum i h = rw (add-one i, drop-cons l i d h)
 
   pub sum_end : (sum : Float) (i : ℕ) → length l ≤ i → sum ≡ sum_from term sum (drop i l)
-  unfolding sum_from
   sum_end sum i h = rw (drop_of_length-le l h)
 
 -- ---- a count, those that pass, and their places
@@ -78,11 +73,9 @@ module _ {A : Type 0} (test : A → Bool) (l : List A) (d : A) where
   count_end i h = rw (drop_of_length-le l h)
 
   pub those_next : (i : ℕ) → i < length l → those test (drop i l) ≡ cond (test (get_or l i d)) (get_or l i d ∷ those test (drop (i + 1) l)) (those test (drop (i + 1) l))
-  unfolding those
   those_next i h = rw (add-one i, drop-cons l i d h)
 
   pub those_end : (i : ℕ) → length l ≤ i → those test (drop i l) ≡ []
-  unfolding those
   those_end i h = rw (drop_of_length-le l h)
 
   pub places_next : (k i : ℕ) → i < length l → places_from k test (drop i l) ≡ cond (test (get_or l i d)) (k ∷ places_from (k + 1) test (drop (i + 1) l)) (places_from (k + 1) test (drop (i + 1) l))

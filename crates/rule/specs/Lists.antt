@@ -1,20 +1,19 @@
 -- Lists, looked through from the front: a test of every element, a count, a sum, the parts that a list is cut into, and what is written for each element
 -- or into a part.
-use Rattle.std.specs.Prelude.{Bool, true, ◌&&◌, cond, List, [], ◌∷◌, ◌++◌, ℕ, zero, suc, ◌+◌, ◌/◌, ltb, length, take, drop, Float}
+use Rattle.std.specs.Prelude.{Bool, true, ◌&&◌, cond, List, [], ◌∷◌, ◌++◌, ℕ, zero, suc, ◌+◌, ◌/◌, ltb, length, take, drop, filter, fold, Float}
+use Rattle.std.specs.List.{list_all}
 use Rattle.rule.specs.Arith.{◌⊕◌}
 
-unfoldable pub every : {A : Type 0} → (A → Bool) → List A → Bool
-every test [] = true
-every test (a ∷ l) = test a && every test l
+abbrev pub every : {A : Type 0} → (A → Bool) → List A → Bool
+every test l = list_all test l
 
 unfoldable pub count_of : {A : Type 0} → (A → Bool) → List A → ℕ
 count_of test [] = 0
 count_of test (a ∷ l) = cond (test a) 1 0 + count_of test l
 
 -- those that pass a test, in their order
-unfoldable pub those : {A : Type 0} → (A → Bool) → List A → List A
-those test [] = []
-those test (a ∷ l) = cond (test a) (a ∷ those test l) (those test l)
+abbrev pub those : {A : Type 0} → (A → Bool) → List A → List A
+those test l = filter test l
 
 -- the places of those that pass a test, ascending, the first element being at place i
 unfoldable pub places_from : {A : Type 0} → ℕ → (A → Bool) → List A → List ℕ
@@ -22,9 +21,8 @@ places_from i test [] = []
 places_from i test (a ∷ l) = cond (test a) (i ∷ places_from (i + 1) test l) (places_from (i + 1) test l)
 
 -- Document 01: 'Sums run in index order from 0.' Here from `sum`, which is what was added up before.
-unfoldable pub sum_from : {A : Type 0} → (A → Float) → Float → List A → Float
-sum_from term sum [] = sum
-sum_from term sum (a ∷ l) = sum_from term (sum ⊕ term a) l
+abbrev pub sum_from : {A : Type 0} → (A → Float) → Float → List A → Float
+sum_from term sum l = fold (λ s a. s ⊕ term a) sum l
 
 -- the first n parts of w elements each
 unfoldable pub first_parts : {A : Type 0} → (w n : ℕ) → List A → List (List A)

@@ -87,7 +87,7 @@ module _ (thresh : Float) (qs : List Float) where
 
   -- whatever is still to come, the sum does not fall
   grows : (whole : Float) (ds : List Float) → T (fits binary64 whole) → T (clear whole) → T (le whole (sum_from square whole (those (close thresh) ds)))
-  unfolding sum_from those close square
+  unfolding close square
   grows whole [] f c = le_same whole c
   grows whole (d ∷ ds) f c = go (le d thresh) refl (grows whole ds f c) (grows (whole ⊕ d ⊗ d) ds (add-fits binary64 _ _))
     where

@@ -88,12 +88,10 @@ module _ (thresh : Float) (qs : List Float) where
   summed_none = record { owed = refl }
 
   pub summed_all : {i : ℕ} {sum : Float} → length qs ≤ i → Summed sum i → sum ≡ squares_in thresh ds
-  unfolding sum_from
   summed_all {i} {sum} g k = ap (λ x. sum_from square sum x) (sym (those_end (close thresh) ds nan i (rw ds_length g))) ∙ k.owed
 
   module _ {i : ℕ} (here : i < length qs) {b : Bool} (answer : b ≡ le (root_of (get_or qs i nan)) thresh) {sum : Float} (s : Summed sum i) where
     pub summed_more : b ≡ true → Summed (sum ⊕ square (root_of (get_or qs i nan))) (i + 1)
-    unfolding sum_from
     summed_more e = record { owed = sym (ap (λ y. sum_from square sum y) (those-yes here answer e)) ∙ s.owed }
 
     pub summed_same : b ≡ false → Summed sum (i + 1)

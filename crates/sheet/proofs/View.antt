@@ -1,22 +1,20 @@
--- The view of the distance's answer can be taken back, so it tells any two answers apart, and a contract on the view fixes the answer. Assumes nothing.
+-- The view of the distance can be taken back, so a contract on the view of the entry's answer fixes the answer (`told_one`). Assumes nothing.
 use mathlib.Core.Path.{◌≡◌, refl}
-use Rattle.rule.specs.Answer.{Answer, refused, gives}
-use Rattle.rule.proofs.Views.{told_apart}
+use Rattle.std.specs.Prelude.{Option, Some, None, Result, Float}
+use Rattle.rule.specs.Answer.{told}
+use Rattle.rule.specs.declared.Refusal.{Refusal}
+use Rattle.rule.proofs.Views.{told_one}
 use Rattle.numbers.specs.Measure.{Measure, beyond, distance}
-use Rattle.sheet.specs.Distance.{view_measured}
-use Rattle.sheet.specs.declared.model.Measured.{Measured}
-use Rattle.sheet.specs.declared.model.Measured.TheVariants.{Distance, Beyond, Refused}
+use Rattle.sheet.specs.Distance.{measured}
 
-back : Answer Measure → Measured
-back (gives (distance d)) = Distance d
-back (gives beyond) = Beyond
-back (refused k) = Refused k
+back : Measure → Option Float
+back (distance d) = Some d
+back beyond = None
 
-undone : (x : Measured) → back (view_measured x) ≡ x
-unfolding back view_measured
-undone (Distance d) = refl
-undone Beyond = refl
-undone (Refused k) = refl
+undone : (x : Option Float) → back (measured x) ≡ x
+unfolding back
+undone (Some d) = refl
+undone None = refl
 
-pub view_one : (x y : Measured) → view_measured x ≡ view_measured y → x ≡ y
-view_one = told_apart view_measured back undone
+pub view_one : (x y : Result (Option Float) Refusal) → told measured x ≡ told measured y → x ≡ y
+view_one = told_one measured back undone

@@ -1,9 +1,9 @@
 -- Document 01, 'Distance', and document 02, orders 2 and 3: the projection by a homography, and the distance of a mark under it by the row ratio, or that the
 -- mark is beyond. (In the terms of the field, the reprojection residual.)
-use Rattle.std.specs.Prelude.{Bool, not, cond, List, [], ◌∷◌, Float}
+use Rattle.std.specs.Prelude.{Bool, not, cond, List, [], ◌∷◌, Option, Some, None, Float}
 use Rattle.std.specs.Float.Ieee.{lt, le}
 use Rattle.rule.specs.Refusal.{RECORD}
-use Rattle.rule.specs.Answer.{Answer, refused, gives}
+use Rattle.rule.specs.Answer.{Answer}
 use Rattle.rule.specs.Order.{Test, first_failed, decided}
 use Rattle.rule.specs.Arith.{◌⊕◌, ◌⊖◌, ◌⊗◌, ◌⊘◌}
 use Rattle.root.specs.Root.{root_of}
@@ -17,8 +17,6 @@ use Rattle.sheet.specs.declared.marks.Point.{Point}
 use Rattle.sheet.specs.declared.marks.Side.TheVariants.{Sheet, Pixel}
 use Rattle.sheet.specs.declared.model.Model.{Model}
 use Rattle.sheet.specs.declared.model.Projection.{Projection}
-use Rattle.sheet.specs.declared.model.Measured.{Measured}
-use Rattle.sheet.specs.declared.model.Measured.TheVariants.{Distance, Beyond, Refused}
 
 unfoldable pub model_numbers : Model → List Float
 model_numbers h = h.h0 ∷ h.h1 ∷ h.h2 ∷ h.h3 ∷ h.h4 ∷ h.h5 ∷ h.h6 ∷ h.h7 ∷ h.h8 ∷ []
@@ -73,8 +71,7 @@ distance_tests r h m = model h ∷ point (mark_numbers m) ∷ ratio r ∷ []
 unfoldable pub distance_answer : (ratio : Float) → Model → Mark → Answer Measure
 distance_answer r h m = decided (first_failed (distance_tests r h m)) (measure_of r h m)
 
--- what each case of the entry's answer stands for
-unfoldable pub view_measured : Measured → Answer Measure
-view_measured (Distance d) = gives (distance d)
-view_measured Beyond = gives beyond
-view_measured (Refused k) = refused k
+-- what the code's distance stands for
+abbrev pub measured : Option Float → Measure
+measured (Some d) = distance d
+measured None = beyond

@@ -6,8 +6,6 @@ mod marks;
 mod model;
 
 pub use marks::{
-    Mark, Point, Side, check_marks, mark_at, mark_count, point_at, point_of, squared_apart,
+    Mark, Point, Points, Side, check_marks, mark_at, mark_count, point_of, squared_apart,
 };
-pub use model::{
-    Measured, Model, Projection, distance, model_finite, project, residual, squared_residual,
-};
+pub use model::{Model, Projection, distance, model_finite, project, residual, squared_residual};

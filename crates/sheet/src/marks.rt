@@ -1,9 +1,12 @@
 // Marks as every entry reads them (document 01, 'Marks'): a list of doubles, four to a mark.
 ghost use Rattle.std.specs.Prelude.{◌≡◌, length};
+ghost use Rattle.rule.specs.Answer.{refusal_in};
 ghost use Rattle.rule.specs.Order.{first_failed};
 ghost use Rattle.numbers.specs.Constants.{farthest};
 ghost use Rattle.numbers.specs.Finite.{within};
-ghost use Rattle.sheet.specs.Marks.{marks_of, mark_at, point_of, point_at, squared_apart, all_within, marks_tests};
+ghost use Rattle.sheet.specs.Marks.{marks_of, mark_at, point_of, point_at, points, squared_apart, all_within, marks_tests};
+
+use rule::Refusal;
 
 // A printed mark: where it is on the sheet, and where the camera saw it. In the terms of the field, a
 // point correspondence.
@@ -72,11 +75,27 @@ pub fn point_of(mark: Mark, side: Side) -> Point
     }
 }
 
-// The point at place `i` of one side; zeros where there is none.
-pub fn point_at(marks: &[f64], side: Side, i: usize) -> Point
-    ensures { result ≡ point_at side marks.now i }
-{
-    point_of(mark_at(marks, i), side)
+// The points of one side of a list of marks.
+#[derive(Clone, Copy)]
+pub struct Points<'a> {
+    pub marks: &'a [f64],
+    pub side: Side,
+}
+
+impl<'a> Points<'a> {
+    pub fn len(self) -> usize
+        ensures { result ≡ length (points self.entry.side self.entry.marks.now) }
+    {
+        mark_count(self.marks)
+    }
+
+    // The point at place `i`; zeros where there is none.
+    #[tactic(auto, unfolding(crate::specs::Marks::point_at))]
+    pub fn at(self, i: usize) -> Point
+        ensures { result ≡ point_at self.entry.side self.entry.marks.now i }
+    {
+        point_of(mark_at(self.marks, i), self.side)
+    }
 }
 
 // The square of the distance of two points.
@@ -95,28 +114,26 @@ fn in_range(x: f64) -> bool
     if -1e9 <= x { x <= 1e9 } else { false }
 }
 
+#[tactic(auto, unfolding(crate::specs::Marks::all_within))]
 pub fn all_in_range(numbers: &[f64]) -> bool
     ensures { result ≡ all_within farthest numbers.now }
 {
-    let mut i = 0;
-    while i < numbers.len() {
-        if !in_range(numbers[i]) {
-            return false;
-        }
-        i += 1;
-    }
-    true
+    numbers.iter().all(|x| in_range(*x))
 }
 
-// The tests of a list of marks, in order: 0 where it passes, else the number of the first that fails.
-pub fn check_marks(marks: &[f64]) -> u32
-    ensures { result ≡ first_failed (marks_tests marks.now) }
+// The tests of a list of marks, in order: refused with 5 or 6.
+#[tactic(auto, unfolding(rule::specs::Order::first_failed, crate::specs::Marks::marks_tests, crate::specs::Marks::shape, crate::specs::Marks::point))]
+pub fn check_marks(marks: &[f64]) -> Result<(), Refusal>
+    ensures { refusal_in result ≡ first_failed (marks_tests marks.now) }
 {
     if marks.len() % 4 != 0 {
-        return rule::SHAPE;
+        return Err(Refusal::Shape);
     }
     if 8000 < marks.len() {
-        return rule::SHAPE;
+        return Err(Refusal::Shape);
     }
-    if all_in_range(marks) { 0 } else { rule::POINT }
+    if !all_in_range(marks) {
+        return Err(Refusal::Point);
+    }
+    Ok(())
 }

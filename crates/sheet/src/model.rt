@@ -1,13 +1,14 @@
 // The distance of a mark under a candidate (document 01, 'Distance') by the row ratio (document 02,
 // order 3), or that the mark is beyond (order 2): every operation once, in 01's order.
 ghost use Rattle.std.specs.Prelude.{◌≡◌};
-ghost use Rattle.rule.specs.Answer.{gives};
+ghost use Rattle.rule.specs.Answer.{told};
 ghost use Rattle.numbers.specs.Finite.{all_finite};
 ghost use Rattle.numbers.specs.Constants.{farthest};
 ghost use Rattle.sheet.specs.Marks.{all_within, mark_numbers};
-ghost use Rattle.sheet.specs.Distance.{projection_of, squared_residual, measure_of, distance_answer, view_measured, model_numbers};
+ghost use Rattle.sheet.specs.Distance.{projection_of, squared_residual, measure_of, distance_answer, measured, model_numbers};
 
 use crate::marks::{Mark, Point, Side, all_in_range, point_of};
+use rule::Refusal;
 
 // A candidate: the homography from the sheet to pixels, row by row.
 #[derive(Clone, Copy)]
@@ -30,15 +31,6 @@ pub struct Projection {
     pub at: Point,
 }
 
-// What `distance` answers: the distance, that the mark is beyond the horizon, or the number of the
-// refusal.
-#[derive(Clone, Copy)]
-pub enum Measured {
-    Distance(f64),
-    Beyond,
-    Refused(u32),
-}
-
 // Where a point of the sheet is mapped to. It says something only where s > 0.
 pub fn project(h: Model, p: Point) -> Projection
     ensures { result ≡ projection_of h p }
@@ -58,15 +50,16 @@ pub fn squared_residual(to: Point, pixel: Point, ratio: f64) -> f64
     numbers::squared_off(ratio, to.x - pixel.x, to.y - pixel.y)
 }
 
-// The distance for any numbers: beyond unless s > 0. It refuses nothing.
-pub fn residual(h: Model, m: Mark, ratio: f64) -> Measured
-    ensures { view_measured result ≡ gives (measure_of ratio h m) }
+// The distance for any numbers: none where the mark is beyond, that is unless s > 0. It refuses nothing.
+#[tactic(auto, unfolding(crate::specs::Distance::measure_of, crate::specs::Distance::beyond_under))]
+pub fn residual(h: Model, m: Mark, ratio: f64) -> Option<f64>
+    ensures { measured result ≡ measure_of ratio h m }
 {
     let to = project(h, point_of(m, Side::Sheet));
     if to.s > 0.0 {
-        Measured::Distance(root::sqrt(squared_residual(to.at, point_of(m, Side::Pixel), ratio)))
+        Some(root::sqrt(squared_residual(to.at, point_of(m, Side::Pixel), ratio)))
     } else {
-        Measured::Beyond
+        None
     }
 }
 
@@ -85,21 +78,21 @@ fn mark_in_range(m: Mark) -> bool
     all_in_range(&numbers)
 }
 
-// The distance of a mark under a candidate by a row ratio; refused with 1 where a number of the
-// candidate is not finite, then with 6 where one of the mark is out of range, then with 16 where the
-// ratio is not from 0.01 to 100.
-pub fn distance(h: Model, m: Mark, ratio: f64) -> Measured
-    ensures { view_measured result ≡ distance_answer ratio h m }
+// The distance of a mark under a candidate by a row ratio, none where the mark is beyond; refused with 1
+// where a number of the candidate is not finite, then with 6 where one of the mark is out of range, then
+// with 16 where the ratio is not from 0.01 to 100.
+#[tactic(auto, unfolding(rule::specs::Order::first_failed, rule::specs::Order::decided, crate::specs::Distance::distance_answer, crate::specs::Distance::distance_tests, crate::specs::Distance::model, crate::specs::Marks::point, numbers::specs::Ratio::ratio))]
+pub fn distance(h: Model, m: Mark, ratio: f64) -> Result<Option<f64>, Refusal>
+    ensures { told measured result ≡ distance_answer ratio h m }
 {
     if !model_finite(h) {
-        return Measured::Refused(rule::RECORD);
+        return Err(Refusal::Record);
     }
     if !mark_in_range(m) {
-        return Measured::Refused(rule::POINT);
+        return Err(Refusal::Point);
     }
-    if numbers::ratio_accepted(ratio) {
-        residual(h, m, ratio)
-    } else {
-        Measured::Refused(rule::RATIO)
+    if !numbers::ratio_accepted(ratio) {
+        return Err(Refusal::Ratio);
     }
+    Ok(residual(h, m, ratio))
 }

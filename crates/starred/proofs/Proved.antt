@@ -16,7 +16,7 @@ use Rattle.sheet.specs.Distance.{projection_of, beyond_under, squared_residual, 
 use Rattle.starred.specs.Starred.{Starred}
 
 pub starred : Starred
-unfolding round of_bits to_bits neg add sub mul div lt le count_leading_zeros taken one_more after_digits whole_root significand exponent shift_of shift scaled height root_bits has_root root_of root_answer abs_of is_finite within counts0 linear discriminant ascending curved roots_of quadratic_answer count_of point_of squared_off projection_of beyond_under squared_residual measure_of as_distance distance_of inlier eq close count_in those sum_from square squares_in rms_of rms_in of_int count_under stop_at standing judged_by stands_of judge_trial is_better beats winner_after scored_answer raised lowered bound_after entered ended_at has_ended called fresh book_after answers_of beyond_fit
+unfolding round of_bits to_bits neg add sub mul div lt le count_leading_zeros taken one_more after_digits whole_root significand exponent shift_of shift scaled height root_bits has_root root_of root_answer abs_of is_finite within counts0 linear discriminant ascending curved roots_of quadratic_answer count_of point_of squared_off projection_of beyond_under squared_residual measure_of as_distance distance_of inlier eq close count_in square squares_in rms_of rms_in of_int count_under stop_at standing judged_by stands_of judge_trial is_better beats winner_after scored_answer raised lowered bound_after entered ended_at has_ended called fresh book_after answers_of beyond_fit
 starred =
     record {
       under_I = refl;

@@ -53,19 +53,17 @@ both_true true b h = (refl, h)
 both_true false b h = absurd (true≢false (sym h))
 
 pub numbers_back : (l : List Float) → T (every (fits binary64) l) → map (of_bits binary64) (map (to_bits binary64) l) ≡ l
-unfolding every
 numbers_back [] t = refl
 numbers_back (x ∷ l) t =
     ap₂ (λ y m. y ∷ m) (number_back x (and_l (fits binary64 x) (every (fits binary64) l) t)) (numbers_back l (and_r (fits binary64 x) (every (fits binary64) l) t))
 
 pub fields_fit : (l : List Float) → T (every (fits binary64) l) → {layout bits : List ℕ} → Fit layout bits → Fit (replicate (length l) 8 ++ layout) (map (to_bits binary64) l ++ bits)
-unfolding every
 fields_fit [] t rest = rest
 fields_fit (x ∷ l) t rest =
     more (bits_below x (and_l (fits binary64 x) (every (fits binary64) l) t)) (fields_fit l (and_r (fits binary64 x) (every (fits binary64) l) t) rest)
 
 pub bits_again : (n : ℕ) (bits : List ℕ) → Fit (replicate n 8) bits → all_finite (map (of_bits binary64) bits) ≡ true → map (to_bits binary64) (map (of_bits binary64) bits) ≡ bits
-unfolding all_finite every
+unfolding all_finite
 bits_again zero [] fit h = refl
 bits_again zero (b ∷ bits) fit h = elim fit [ ]
 bits_again (suc n) [] fit h = elim fit [ ]
@@ -75,7 +73,6 @@ bits_again (suc n) (b ∷ bits) (more k fit) h =
 
 -- no bits set: the zero without a sign
 pub zeros : (bits : List ℕ) → every (λ b. eqb b 0) bits ≡ true → bits ≡ replicate (length bits) 0
-unfolding every
 zeros [] h = refl
 zeros (b ∷ bits) h =
     let e = both_true (eqb b 0) (every (λ c. eqb c 0) bits) h in
@@ -95,12 +92,10 @@ zeros_again (suc n) = ap₂ (λ b m. b ∷ m) (bits_back 0 (omega arith) (finite
 
 -- of a list, by its elements' tests
 pub every_map : {A B : Type 0} (test : B → Bool) (f : A → B) (l : List A) → every test (map f l) ≡ every (λ a. test (f a)) l
-unfolding every
 every_map test f [] = refl
 every_map test f (a ∷ l) = ap (λ b. test (f a) && b) (every_map test f l)
 
 pub by_places : {A : Type 0} (test : A → Bool) (l : List A) (d : A) → ((i : ℕ) → T (test (get_or l i d))) → T (every test l)
-unfolding every
 by_places test [] d h = tt
 by_places test (a ∷ l) d h = and_i (test a) (every test l) (h zero) (by_places test l d (λ i. h (suc i)))
 

@@ -33,7 +33,7 @@ unfolding mark_format mark_layout size_of
 mark_size = refl
 
 pub mark_held : (m : Mark) → T (fits binary64 m.x) → T (fits binary64 m.y) → T (fits binary64 m.u) → T (fits binary64 m.v) → MarkRepresentable m
-unfolding MarkRepresentable mark_numbers every
+unfolding MarkRepresentable mark_numbers
 mark_held m p q r s =
     and_i (fits binary64 m.x) _ p (and_i (fits binary64 m.y) _ q (and_i (fits binary64 m.u) _ r (and_i (fits binary64 m.v) true s tt)))
 
@@ -72,7 +72,7 @@ module _ (m : Mark) where
 -- ---- what the format keeps
 
 pub within_finite : (limit : Float) (l : List Float) → all_within limit l ≡ true → all_finite l ≡ true
-unfolding all_within all_finite every within
+unfolding all_within all_finite within
 within_finite limit [] h = refl
 within_finite limit (x ∷ l) h =
     let p = both_true (is_finite x && le (abs_of x) limit) (every (within limit) l) h in

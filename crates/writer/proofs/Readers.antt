@@ -100,7 +100,7 @@ module _ (l : List ℕ) where
 -- and that one is what the writer makes of its numbers
 module _ (l : List ℕ) (size : length l ≡ 32) (bytes : T (all_bytes l)) (accepted : first_failed (options_record l ∷ options_tests (options_of l)) ≡ 0) where
   completed-bytes : T (all_bytes (completed l))
-  unfolding completed all_bytes double_bytes bytes_of every to_bits of_bits
+  unfolding completed all_bytes double_bytes bytes_of to_bits of_bits
   completed-bytes = subst T (sym (every_append _ l (double_bytes one))) (and_i (all_bytes l) (all_bytes (double_bytes one)) bytes tt)
 
   completed-read : numbers_read options_format (completed l) ≡ gives (options_numbers (options_of l))
@@ -213,7 +213,7 @@ marks_again [] = refl
 marks_again (m ∷ ms) = ap (λ rest. m ∷ rest) (marks_again ms)
 
 held-numbers : (ms : List Mark) → T (every (λ m. every (fits binary64) (mark_numbers m)) ms) → T (every (fits binary64) (for_each mark_numbers ms))
-unfolding every for_each
+unfolding for_each
 held-numbers [] t = tt
 held-numbers (m ∷ ms) t =
     subst T (sym (every_append (fits binary64) (mark_numbers m) (for_each mark_numbers ms)))
