@@ -9,7 +9,7 @@ use Rattle.root.specs.Root.{root_of}
 use Rattle.numbers.specs.Constants.{zero', two, four, tiny, near, most}
 use Rattle.numbers.specs.Finite.{abs_of, within}
 use Rattle.numbers.specs.declared.quadratic.Quadratic.{Quadratic}
-use Rattle.numbers.specs.declared.quadratic.Quadratic.TheVariants.{NoRoot, One, Two, Refused}
+use Rattle.numbers.specs.declared.quadratic.Quadratic.TheVariants.{NoRoot, One, Two}
 
 -- what counts as 0: of magnitude below 1e-12
 unfoldable pub counts0 : Float → Bool
@@ -37,14 +37,13 @@ curved a b disc =
 unfoldable pub roots_of : Float → Float → Float → List Float
 roots_of a b c = cond (counts0 a) (linear b c) (curved a b (discriminant a b c))
 
+-- what each case of the code's roots stands for
+unfoldable pub view_quadratic : Quadratic → List Float
+view_quadratic NoRoot = []
+view_quadratic (One x) = x ∷ []
+view_quadratic (Two x y) = x ∷ y ∷ []
+
 -- ---- the entry
 
 unfoldable pub quadratic_answer : Float → Float → Float → Answer (List Float)
 quadratic_answer a b c = cond (within most a && (within most b && within most c)) (gives (roots_of a b c)) (refused NUMBER)
-
--- what each case of the entry's answer stands for
-unfoldable pub view_quadratic : Quadratic → Answer (List Float)
-view_quadratic NoRoot = gives []
-view_quadratic (One x) = gives (x ∷ [])
-view_quadratic (Two x y) = gives (x ∷ y ∷ [])
-view_quadratic (Refused k) = refused k

@@ -1,21 +1,22 @@
 // The real roots of a quadratic (document 01, 'Quadratic'; linalg.rs): every operation once, in the
 // source's order, so that each bit is the Rust's.
 ghost use Rattle.std.specs.Prelude.{◌≡◌};
-ghost use Rattle.rule.specs.Answer.{gives};
+ghost use Rattle.rule.specs.Answer.{told};
 ghost use Rattle.numbers.specs.Quadratic.{counts0, linear, ascending, curved, quadratic_answer, view_quadratic};
 
 use crate::finite::{abs, within};
+use rule::Refusal;
 
-// What `solve_quadratic_real` answers: no root, one, two ascending, or the number of the refusal.
+// The real roots: none, one, or two ascending.
 #[derive(Clone, Copy)]
 pub enum Quadratic {
     NoRoot,
     One(f64),
     Two(f64, f64),
-    Refused(u32),
 }
 
 // Whether `x` counts as 0.
+#[tactic(auto, unfolding(crate::specs::Quadratic::counts0))]
 fn counts_0(x: f64) -> bool
     ensures { result ≡ counts0 x }
 {
@@ -23,8 +24,9 @@ fn counts_0(x: f64) -> bool
 }
 
 // The root of b·x + c.
+#[tactic(auto, unfolding(crate::specs::Quadratic::linear, crate::specs::Quadratic::view_quadratic))]
 fn solve_linear(b: f64, c: f64) -> Quadratic
-    ensures { view_quadratic result ≡ gives (linear b c) }
+    ensures { view_quadratic result ≡ linear b c }
 {
     if counts_0(b) {
         Quadratic::NoRoot
@@ -34,8 +36,9 @@ fn solve_linear(b: f64, c: f64) -> Quadratic
 }
 
 // Two roots in order, or the plus root alone where they are all but equal.
+#[tactic(auto, unfolding(crate::specs::Quadratic::ascending, crate::specs::Quadratic::view_quadratic))]
 fn in_order(plus: f64, minus: f64) -> Quadratic
-    ensures { view_quadratic result ≡ gives (ascending plus minus) }
+    ensures { view_quadratic result ≡ ascending plus minus }
 {
     if abs(plus - minus) < 1e-8 {
         return Quadratic::One(plus);
@@ -48,8 +51,9 @@ fn in_order(plus: f64, minus: f64) -> Quadratic
 }
 
 // The roots where `a` doesn't count as 0, by the discriminant.
+#[tactic(auto, unfolding(crate::specs::Quadratic::curved, crate::specs::Quadratic::view_quadratic))]
 fn solve_curved(a: f64, b: f64, disc: f64) -> Quadratic
-    ensures { view_quadratic result ≡ gives (curved a b disc) }
+    ensures { view_quadratic result ≡ curved a b disc }
 {
     if counts_0(disc) {
         return Quadratic::One(-b / (2.0 * a));
@@ -63,21 +67,22 @@ fn solve_curved(a: f64, b: f64, disc: f64) -> Quadratic
 
 // The real roots of a·x² + b·x + c; refused with 15 where a coefficient is not finite or of
 // magnitude above 1e100.
-pub fn solve_quadratic_real(a: f64, b: f64, c: f64) -> Quadratic
-    ensures { view_quadratic result ≡ quadratic_answer a b c }
+#[tactic(auto, unfolding(crate::specs::Quadratic::quadratic_answer, crate::specs::Quadratic::roots_of, crate::specs::Quadratic::discriminant))]
+pub fn solve_quadratic_real(a: f64, b: f64, c: f64) -> Result<Quadratic, Refusal>
+    ensures { told view_quadratic result ≡ quadratic_answer a b c }
 {
     if !within(a, 1e100) {
-        return Quadratic::Refused(rule::NUMBER);
+        return Err(Refusal::Number);
     }
     if !within(b, 1e100) {
-        return Quadratic::Refused(rule::NUMBER);
+        return Err(Refusal::Number);
     }
     if !within(c, 1e100) {
-        return Quadratic::Refused(rule::NUMBER);
+        return Err(Refusal::Number);
     }
     if counts_0(a) {
-        solve_linear(b, c)
+        Ok(solve_linear(b, c))
     } else {
-        solve_curved(a, b, b * b - 4.0 * a * c)
+        Ok(solve_curved(a, b, b * b - 4.0 * a * c))
     }
 }

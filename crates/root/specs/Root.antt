@@ -9,8 +9,6 @@ use Rattle.rule.specs.Refusal.{NUMBER}
 use Rattle.rule.specs.Answer.{Answer, refused, gives}
 use Rattle.root.specs.Double.{units, next_up, next_down}
 use Rattle.root.specs.Digits.{whole_root}
-use Rattle.root.specs.declared.Rooted.{Rooted}
-use Rattle.root.specs.declared.Rooted.TheVariants.{Root, Refused}
 
 -- ---- what the root of a finite positive double is
 
@@ -82,8 +80,3 @@ root_of (fin s (suc m) e) = cond s nan (of_bits binary64 (root_bits (to_bits bin
 
 unfoldable pub root_answer : Float → Answer Float
 root_answer a = cond (has_root a) (gives (root_of a)) (refused NUMBER)
-
--- what each case of the entry's answer stands for
-unfoldable pub view_rooted : Rooted → Answer Float
-view_rooted (Root y) = gives y
-view_rooted (Refused k) = refused k

@@ -8,22 +8,11 @@
 
 ghost use Rattle.std.specs.Prelude.{◌≡◌, true, T, ◌+◌, ◌*◌, ◌≤◌, ◌<◌, ◌^◌};
 ghost use Rattle.std.specs.Float.Ieee.Positive.{positive};
+ghost use Rattle.rule.specs.Answer.{answered};
 ghost use Rattle.root.specs.Digits.{Chosen, Ready, NextDigit, Holds, whole_root};
-ghost use Rattle.root.specs.Root.{significand, exponent, shift_of, IsScaled, root_bits, root_of, root_answer, view_rooted};
+ghost use Rattle.root.specs.Root.{significand, exponent, shift_of, IsScaled, root_bits, root_of, root_answer};
 
-// What `root` answers: the root, or the number of the refusal.
-#[derive(Clone, Copy)]
-pub enum Rooted {
-    Root(f64),
-    Refused(u32),
-}
-
-// Two roots.
-#[derive(Clone, Copy)]
-pub struct Roots {
-    pub first: f64,
-    pub second: f64,
-}
+use rule::Refusal;
 
 // The digit loop's state, in place: the root so far times the unit; what is left of the number, that
 // is the remainder times the unit with the digits still to come behind it; and the unit. With each
@@ -248,31 +237,25 @@ fn two_root_bits(b: u64, c: u64) -> TwoPatterns
 
 // The roots of two numbers, side by side, which takes less time than one after the other. Total, as
 // `sqrt` is.
-pub fn sqrt_two(a: f64, b: f64) -> Roots
-    ensures { (result.first ≡ root_of a) × (result.second ≡ root_of b) }
+pub fn sqrt_two(a: f64, b: f64) -> (f64, f64)
+    ensures { (result.0 ≡ root_of a) × (result.1 ≡ root_of b) }
 {
     if is_plain(a) {
         if is_plain(b) {
             let bits = two_root_bits(f64::to_bits(a), f64::to_bits(b));
-            return Roots {
-                first: f64::from_bits(bits.first),
-                second: f64::from_bits(bits.second),
-            };
+            return (f64::from_bits(bits.first), f64::from_bits(bits.second));
         }
     }
-    Roots {
-        first: sqrt(a),
-        second: sqrt(b),
-    }
+    (sqrt(a), sqrt(b))
 }
 
 // The root of `a`; refused with 15 where `a` is a NaN or negative.
-pub fn root(a: f64) -> Rooted
-    ensures { view_rooted result ≡ root_answer a }
+pub fn root(a: f64) -> Result<f64, Refusal>
+    ensures { answered result ≡ root_answer a }
 {
     if a >= 0.0 {
-        Rooted::Root(sqrt(a))
+        Ok(sqrt(a))
     } else {
-        Rooted::Refused(rule::NUMBER)
+        Err(Refusal::Number)
     }
 }
