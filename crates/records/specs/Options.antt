@@ -4,7 +4,7 @@ use Rattle.std.specs.Prelude.{Bool, true, not, cond, ◌&&◌, ◌||◌, List, [
 use Rattle.std.specs.Float.{binary64}
 use Rattle.std.specs.Float.Ieee.{of_bits, lt}
 use Rattle.rule.specs.Refusal.{RECORD, THRESH, CONFIDENCE, ITERS}
-use Rattle.rule.specs.Answer.{Answer, refused, gives}
+use Rattle.rule.specs.Answer.{Answer}
 use Rattle.rule.specs.Order.{Test, first_failed, decided}
 use Rattle.numbers.specs.Constants.{zero', one, usual_confidence}
 use Rattle.numbers.specs.Finite.{is_finite}
@@ -12,8 +12,6 @@ use Rattle.numbers.specs.Ratio.{ratio}
 use Rattle.fields.specs.Fields.{double_bytes}
 use Rattle.fields.specs.Packing.{size_of, unpacked}
 use Rattle.records.specs.declared.options.RansacOptions.{RansacOptions}
-use Rattle.records.specs.declared.options.OptionsRead.{OptionsRead}
-use Rattle.records.specs.declared.options.OptionsRead.TheVariants.{Options, Refused}
 
 -- ---- the record
 
@@ -69,11 +67,6 @@ options_answer l = decided (first_failed (options_record l ∷ [])) (options_of 
 -- a record of 32 bytes with the ratio behind it that it is read with, 1
 unfoldable pub completed : List ℕ → List ℕ
 completed l = l ++ double_bytes one
-
--- what each case of the reader's answer stands for
-unfoldable pub view_options : OptionsRead → Answer RansacOptions
-view_options (Options o) = gives o
-view_options (Refused k) = refused k
 
 -- ---- the maker: 1000, 12, 0.99, refit on, ratio 1
 

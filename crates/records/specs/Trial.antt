@@ -3,7 +3,7 @@ use Rattle.std.specs.Prelude.{Bool, not, cond, ◌&&◌, ◌||◌, List, [], ◌
 use Rattle.std.specs.Float.{binary64}
 use Rattle.std.specs.Float.Ieee.{of_bits}
 use Rattle.rule.specs.Refusal.{RECORD}
-use Rattle.rule.specs.Answer.{Answer, refused, gives}
+use Rattle.rule.specs.Answer.{Answer}
 use Rattle.rule.specs.Order.{Test, first_failed, decided}
 use Rattle.rule.specs.Lists.{every}
 use Rattle.numbers.specs.Finite.{all_finite}
@@ -11,7 +11,7 @@ use Rattle.sheet.specs.declared.model.Model.{Model}
 use Rattle.book.specs.Score.{Trial, unfitted, fitted, refitted}
 use Rattle.fields.specs.Packing.{size_of, unpacked}
 use Rattle.records.specs.declared.trial.Recorded.{Recorded}
-use Rattle.records.specs.declared.trial.Recorded.TheVariants.{Empty, Fit, Refit, Refused}
+use Rattle.records.specs.declared.trial.Recorded.TheVariants.{Empty, Fit, Refit}
 
 unfoldable pub trial_layout : List ℕ
 trial_layout = 1 ∷ 1 ∷ 6 ∷ replicate 18 8
@@ -80,9 +80,8 @@ trial_of l = trial_from (unpacked trial_layout l)
 unfoldable pub trial_answer : List ℕ → Answer (Trial Model)
 trial_answer l = decided (first_failed (trial_record l ∷ [])) (trial_of l)
 
--- what each case of the reader's answer stands for
-unfoldable pub view_recorded : Recorded → Answer (Trial Model)
-view_recorded Empty = gives unfitted
-view_recorded (Fit m) = gives (fitted m)
-view_recorded (Refit p) = gives (refitted p.fit p.refit)
-view_recorded (Refused k) = refused k
+-- what the code's trial stands for
+abbrev pub view_recorded : Recorded → Trial Model
+view_recorded Empty = unfitted
+view_recorded (Fit m) = fitted m
+view_recorded (Refit p) = refitted p.fit p.refit

@@ -1,11 +1,14 @@
 // The options of a run (document 01, 'Options'; `RansacOptions` of ransac.rs, without the seed), with the
 // row ratio of document 02, order 3.
 ghost use Rattle.std.specs.Prelude.{◌≡◌, cond, eqb, length};
+ghost use Rattle.rule.specs.Answer.{answered, refusal_in};
 ghost use Rattle.rule.specs.Order.{first_failed};
 ghost use Rattle.numbers.specs.Constants.{one};
 ghost use Rattle.fields.specs.Fields.{double_at};
 ghost use Rattle.fields.specs.Packing.{size_of};
-ghost use Rattle.records.specs.Options.{layout_by, usual_options, options_answer, view_options, options_tests};
+ghost use Rattle.records.specs.Options.{layout_by, usual_options, options_answer, options_tests};
+
+use rule::Refusal;
 
 #[derive(Clone, Copy)]
 pub struct RansacOptions {
@@ -19,13 +22,6 @@ pub struct RansacOptions {
     pub refit: bool,
     // what a difference along v is multiplied by
     pub ratio: f64,
-}
-
-// What `read_options` answers: the options, or the number of the refusal.
-#[derive(Clone, Copy)]
-pub enum OptionsRead {
-    Options(RansacOptions),
-    Refused(u32),
 }
 
 impl RansacOptions {
@@ -72,20 +68,20 @@ fn ratio_at(bytes: &[u8]) -> f64
 }
 
 // The options of a record; refused with 1 where it is none. The numbers are not tested.
-pub fn read_options(bytes: &[u8]) -> OptionsRead
-    ensures { view_options result ≡ options_answer bytes.now }
+pub fn read_options(bytes: &[u8]) -> Result<RansacOptions, Refusal>
+    ensures { answered result ≡ options_answer bytes.now }
 {
     if !options_sized(bytes.len()) {
-        return OptionsRead::Refused(rule::RECORD);
+        return Err(Refusal::Record);
     }
     let refit = fields::byte_at(bytes, 24);
     if 1 < refit {
-        return OptionsRead::Refused(rule::RECORD);
+        return Err(Refusal::Record);
     }
     if !fields::zero_bytes(bytes, 25, 32) {
-        return OptionsRead::Refused(rule::RECORD);
+        return Err(Refusal::Record);
     }
-    OptionsRead::Options(RansacOptions {
+    Ok(RansacOptions {
         thresh: fields::double_at(bytes, 0),
         confidence: fields::double_at(bytes, 1),
         max_iters: fields::word_at(bytes, 4),
@@ -95,31 +91,22 @@ pub fn read_options(bytes: &[u8]) -> OptionsRead
     })
 }
 
-// The tests of the options' numbers, in order: 0 where they pass, else the number of the first that
-// fails.
-pub fn validate(o: RansacOptions) -> u32
-    ensures { result ≡ first_failed (options_tests o) }
+// The tests of the options' numbers, in order: refused by the first that fails.
+#[tactic(auto, unfolding(rule::specs::Order::first_failed, crate::specs::Options::options_tests, crate::specs::Options::thresh, crate::specs::Options::confidence, crate::specs::Options::iters, numbers::specs::Ratio::ratio))]
+pub fn validate(o: RansacOptions) -> Result<(), Refusal>
+    ensures { refusal_in result ≡ first_failed (options_tests o) }
 {
-    if !numbers::is_finite(o.thresh) {
-        return rule::THRESH;
+    if !(numbers::is_finite(o.thresh) && 0.0 < o.thresh) {
+        return Err(Refusal::Thresh);
     }
-    if !(0.0 < o.thresh) {
-        return rule::THRESH;
+    if !(0.0 < o.confidence && o.confidence < 1.0) {
+        return Err(Refusal::Confidence);
     }
-    if !(0.0 < o.confidence) {
-        return rule::CONFIDENCE;
-    }
-    if !(o.confidence < 1.0) {
-        return rule::CONFIDENCE;
-    }
-    if o.max_iters == 0 {
-        return rule::ITERS;
-    }
-    if 100_000 < o.max_iters {
-        return rule::ITERS;
+    if o.max_iters == 0 || 100_000 < o.max_iters {
+        return Err(Refusal::Iters);
     }
     if !numbers::ratio_accepted(o.ratio) {
-        return rule::RATIO;
+        return Err(Refusal::Ratio);
     }
-    0
+    Ok(())
 }

@@ -1,8 +1,10 @@
 // One trial as the fitter records it (document 01, 'Trials'): a fit and perhaps its refit, or none.
 ghost use Rattle.std.specs.Prelude.{◌≡◌, ◌+◌, ◌*◌, ◌≤◌, length, take, drop};
+ghost use Rattle.rule.specs.Answer.{told};
 ghost use Rattle.fields.specs.Fields.{longs_of};
 ghost use Rattle.records.specs.Trial.{model_from, marks_formed, numbers_formed, trial_formed, trial_answer, view_recorded};
 
+use rule::Refusal;
 use sheet::Model;
 
 #[derive(Clone, Copy)]
@@ -11,13 +13,12 @@ pub struct Refitted {
     pub refit: Model,
 }
 
-// What `read_trial` answers: no fit, a fit, a fit with its refit, or the number of the refusal.
+// A trial: no fit, a fit, or a fit with its refit.
 #[derive(Clone, Copy)]
 pub enum Recorded {
     Empty,
     Fit(Model),
     Refit(Refitted),
-    Refused(u32),
 }
 
 // The nine numbers from the double at place `i` on.
@@ -91,20 +92,20 @@ fn trial_formed(bytes: &[u8]) -> bool
 }
 
 // The trial of a 152-byte record; refused with 1 where it is none.
-pub fn read_trial(bytes: &[u8]) -> Recorded
-    ensures { view_recorded result ≡ trial_answer bytes.now }
+pub fn read_trial(bytes: &[u8]) -> Result<Recorded, Refusal>
+    ensures { told view_recorded result ≡ trial_answer bytes.now }
 {
     if !trial_formed(bytes) {
-        return Recorded::Refused(rule::RECORD);
+        return Err(Refusal::Record);
     }
     if fields::byte_at(bytes, 1) == 1 {
-        return Recorded::Refit(Refitted {
+        return Ok(Recorded::Refit(Refitted {
             fit: model_at(bytes, 1),
             refit: model_at(bytes, 10),
-        });
+        }));
     }
     if fields::byte_at(bytes, 0) == 1 {
-        return Recorded::Fit(model_at(bytes, 1));
+        return Ok(Recorded::Fit(model_at(bytes, 1)));
     }
-    Recorded::Empty
+    Ok(Recorded::Empty)
 }
