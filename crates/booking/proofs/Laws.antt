@@ -1,39 +1,13 @@
--- The book's rules by numbers: one law for each way out, and what an open state's counts are. Assumes nothing.
+-- The book's rules by numbers: what an open state's counts are, and one law for each way that the comparison of two models goes. Assumes nothing.
 use mathlib.Core.Path.{◌≡◌}
 use mathlib.Core.Bool.{true, false}
 use Prim.Native.Nat.{ℕ, ◌≤◌, ◌<◌}
-use borrow.Author.Tests.{le-leb, lt-leb, lt-ltb, le-ltb, eq-eqb, ne_eqb, leb-false, ltb-false}
+use borrow.Author.Tests.{lt-ltb, le-ltb, eq-eqb, ne_eqb, leb-false, ltb-false}
 use lib.Dec.{leb, ltb}
 use lib.Ieee.{Float, lt}
 use Rattle.rule.proofs.Tests.{neither}
-use Rattle.book.specs.Book.{raised, lowered, ended_at, is_better}
+use Rattle.book.specs.Book.{ended_at, is_better}
 use Rattle.book.specs.Calls.{closed_at}
-
--- ---- the end
-
-module _ {read bound : ℕ} (empty few scored : ℕ) where
-  pub ended : bound ≤ read → true ≡ closed_at read empty few scored bound
-  unfolding closed_at ended_at
-  ended h = rw (le-leb bound read h)
-
-  module _ (before : read < bound) where
-    pub too_many : 100000 ≤ read → true ≡ closed_at read empty few scored bound
-    unfolding closed_at ended_at
-    too_many h = rw (lt-leb bound read before, le-leb 100000 read h)
-
-    module _ (small : read < 100000) where
-      pub empties_over : read < empty → true ≡ closed_at read empty few scored bound
-      unfolding closed_at ended_at
-      empties_over h = rw (lt-leb bound read before, lt-leb 100000 read small, lt-ltb read empty h)
-
-      module _ (empties : empty ≤ read) where
-        pub fews_over : read < few → true ≡ closed_at read empty few scored bound
-        unfolding closed_at ended_at
-        fews_over h = rw (lt-leb bound read before, lt-leb 100000 read small, le-ltb read empty empties, lt-ltb read few h)
-
-        pub scores_over : few ≤ read → ltb read scored ≡ closed_at read empty few scored bound
-        unfolding closed_at ended_at
-        scores_over h = rw (lt-leb bound read before, lt-leb 100000 read small, le-ltb read empty empties, le-ltb read few h)
 
 -- what an open state's counts are: one more overflows none
 pub record Small (read empty few scored : ℕ) : Type 0 where
@@ -50,25 +24,6 @@ small read empty few scored bound h =
     let c = neither (ltb read empty) _ b.1 in
     let d = neither (ltb read few) _ c.1 in
     record { reads = leb-false 100000 read b.0; empties = ltb-false read empty c.0; fews = ltb-false read few d.0; scores = ltb-false read scored d.1 }
-
--- ---- the bound
-
-module _ {k : ℕ} (limit : ℕ) where
-  pub raise_up : k < limit → limit ≡ raised limit k
-  unfolding raised
-  raise_up h = rw (lt-ltb k limit h)
-
-  pub raise_not : limit ≤ k → k ≡ raised limit k
-  unfolding raised
-  raise_not h = rw (le-ltb k limit h)
-
-  pub lower_down : limit < k → limit ≡ lowered limit k
-  unfolding lowered
-  lower_down h = rw (lt-ltb limit k h)
-
-  pub lower_not : k ≤ limit → k ≡ lowered limit k
-  unfolding lowered
-  lower_not h = rw (le-ltb limit k h)
 
 -- ---- the winner
 

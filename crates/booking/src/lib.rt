@@ -3,57 +3,46 @@
 #![tactic(auto)]
 
 ghost use Rattle.std.specs.Prelude.{◌≡◌};
-ghost use Rattle.book.specs.Book.{raised, lowered, bound_after, is_better};
+ghost use Rattle.book.specs.Book.{bound_after, is_better};
 ghost use Rattle.book.specs.Calls.{closed_at};
 
-// Whether a state with these counts takes no more trials: it has ended, or no run could have made it.
-pub fn is_closed(read: u32, empty: u32, few: u32, scored: u32, bound: u32) -> bool
-    ensures { result ≡ closed_at read empty few scored bound }
-{
-    if bound <= read {
-        return true;
-    }
-    if 100_000 <= read {
-        return true;
-    }
-    if read < empty {
-        return true;
-    }
-    if read < few {
-        return true;
-    }
-    read < scored
+// A state's counts: trials read, those of them that were empty, few and scored, and the bound.
+#[derive(Clone, Copy)]
+pub struct Counts {
+    pub read: u32,
+    pub empty: u32,
+    pub few: u32,
+    pub scored: u32,
+    pub bound: u32,
 }
 
-fn raise(k: u32, least: u32) -> u32
-    ensures { result ≡ raised least k }
-{
-    if k < least { least } else { k }
-}
-
-fn lower(k: u32, most: u32) -> u32
-    ensures { result ≡ lowered most k }
-{
-    if most < k { most } else { k }
+impl Counts {
+    // Whether a state with these counts takes no more trials: it has ended, or no run could have made it.
+    #[tactic(auto, unfolding(book::specs::Calls::closed_at, book::specs::Book::ended_at))]
+    pub fn is_closed(self) -> bool
+        ensures { result ≡ closed_at self.read self.empty self.few self.scored self.bound }
+    {
+        self.bound <= self.read
+            || 100_000 <= self.read
+            || self.read < self.empty
+            || self.read < self.few
+            || self.read < self.scored
+    }
 }
 
 // The bound after a scored trial with this stop entry, itself counted as read.
+#[tactic(auto, unfolding(book::specs::Book::bound_after, book::specs::Book::raised, book::specs::Book::lowered))]
 pub fn bound_after(stop: u32, read: u32, max_iters: u32) -> u32
     ensures { result ≡ bound_after max_iters read stop }
 {
-    lower(raise(stop, read), max_iters)
+    stop.max(read).min(max_iters)
 }
 
 // Whether a scored trial wins: its count is higher than the winner's so far, or equal and its root
 // mean square less.
+#[tactic(auto, unfolding(book::specs::Book::is_better))]
 pub fn is_better_model(count: u32, rms: f64, best_count: u32, best_rms: f64) -> bool
     ensures { result ≡ is_better count rms best_count best_rms }
 {
-    if best_count < count {
-        return true;
-    }
-    if count != best_count {
-        return false;
-    }
-    rms < best_rms
+    best_count < count || (count == best_count && rms < best_rms)
 }

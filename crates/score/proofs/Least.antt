@@ -9,6 +9,7 @@ use lib.ListN.{length, get_or, drop}
 use lib.Ieee.{Float, nan, binary64, fits, lt, le, of_int}
 use lib.Ieee.Bits.{is_true, of_bits-fits}
 use lib.Ieee.Fits.{add-fits}
+use Rattle.std.specs.Prelude.{Some, None}
 use Rattle.rule.specs.Arith.{clear, ◌⊕◌, ◌⊗◌, ◌⊘◌}
 use Rattle.rule.specs.Lists.{sum_from, those}
 use Rattle.rule.proofs.Tests.{clash, is_test}
@@ -22,7 +23,6 @@ use Rattle.book.proofs.Under.{shrink, shrunk_under, shrunk_clear, add_under, add
 use Rattle.score.specs.Limits.{Settles, addend, Under}
 use Rattle.score.specs.Less.{less_of}
 use Rattle.score.specs.declared.Limits.{Limits}
-use Rattle.score.specs.declared.Less.TheVariants.{Below, NotBelow}
 use Rattle.score.proofs.Walk.{Summed, summed_none, summed_more, summed_same, rms_some}
 use Rattle.score.proofs.Bounds.{zero_clear, above_clear, surely-within}
 
@@ -167,17 +167,17 @@ module _ (best : Float) (ds : List Float) (thresh : Float) (count : ℕ) where
   abbrev whole : Float
   whole = squares_in thresh ds
 
-  pub told_by_least : count ≤ 2 ^ 53 → (count ≡ 0 → ⊥) → {least root : Float} → Under least whole → root ≡ root_of (least ⊘ of_int binary64 (pos count)) → le best root ≡ true → NotBelow ≡ less_of (rms_of count whole) best
+  pub told_by_least : count ≤ 2 ^ 53 → (count ≡ 0 → ⊥) → {least root : Float} → Under least whole → root ≡ root_of (least ⊘ of_int binary64 (pos count)) → le best root ≡ true → None ≡ less_of (rms_of count whole) best
   unfolding less_of
   told_by_least small some {least} {root} u r h =
       let under = rms-under count some small least whole u.sign (sum_clear thresh ds) u.under in
       let sign = subst (λ x. T (clear x)) (sym (rms_some least some refl r)) (rms_of_lem count least small u.sign) in
       rw (not_below best root (rms_of count whole) sign (rms_of_lem count whole small (sum_clear thresh ds)) h (subst (λ x. T (le x (rms_of count whole))) (sym r) under))
 
-  pub told_below : {rms : Float} → rms ≡ rms_of count whole → lt rms best ≡ true → Below rms ≡ less_of (rms_of count whole) best
+  pub told_below : {rms : Float} → rms ≡ rms_of count whole → lt rms best ≡ true → Some rms ≡ less_of (rms_of count whole) best
   unfolding less_of
   told_below e h = rw (← e, h)
 
-  pub told_not : {rms : Float} → rms ≡ rms_of count whole → lt rms best ≡ false → NotBelow ≡ less_of (rms_of count whole) best
+  pub told_not : {rms : Float} → rms ≡ rms_of count whole → lt rms best ≡ false → None ≡ less_of (rms_of count whole) best
   unfolding less_of
   told_not e h = rw (← e, h)

@@ -1,8 +1,6 @@
 -- A root mean square, where it is less than another one.
-use Rattle.std.specs.Prelude.{cond, Float}
+use Rattle.std.specs.Prelude.{cond, Float, Option, Some, None}
 use Rattle.std.specs.Float.Ieee.{lt}
-use Rattle.score.specs.declared.Less.{Less}
-use Rattle.score.specs.declared.Less.TheVariants.{Below, NotBelow}
 
-unfoldable pub less_of : Float → Float → Less
-less_of rms best = cond (lt rms best) (Below rms) NotBelow
+unfoldable pub less_of : Float → Float → Option Float
+less_of rms best = cond (lt rms best) (Some rms) None

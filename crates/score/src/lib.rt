@@ -30,13 +30,6 @@ struct Tally {
     possible: usize,
 }
 
-// What `rms_if_less` answers: the root mean square, if it is less than the other.
-#[derive(Clone, Copy)]
-pub enum Less {
-    Below(f64),
-    NotBelow,
-}
-
 // What is added to a sum of squares by the roots that are within: all but one are added, and for that
 // one, if it waits, the square is kept whose root it is. So two roots are taken together, which takes
 // less time than one after the other.
@@ -306,22 +299,18 @@ fn least_sum(limits: Limits, squares: &[f64], enough: f64) -> f64
 
 // The root mean square if it is less than `best`. Nearly always where it isn't, the least that it can
 // be is enough to tell, and that takes one root.
-pub fn rms_if_less(thresh: f64, squares: &[f64], count: u32, best: f64) -> Less
+pub fn rms_if_less(thresh: f64, squares: &[f64], count: u32, best: f64) -> Option<f64>
     ensures { result ≡ less_of (rms_of count (squares_in thresh (map root_of squares.now))) best }
 {
     if count != 0 {
         let n = count as f64;
         let least = least_sum(lower_limit_of(thresh), squares, best * best * n);
         if best <= root::sqrt(least / n) {
-            return Less::NotBelow;
+            return None;
         }
     }
     let rms = rms(thresh, squares, count);
-    if rms < best {
-        Less::Below(rms)
-    } else {
-        Less::NotBelow
-    }
+    if rms < best { Some(rms) } else { None }
 }
 
 // Writes the places of the squares with a root within the threshold to the front of `indices`,
