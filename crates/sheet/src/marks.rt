@@ -32,6 +32,7 @@ pub enum Side {
 }
 
 // How many marks: those that the list has in full.
+#[tactic(auto, using(crate::proofs::Places::count))]
 pub fn mark_count(marks: &[f64]) -> usize
     ensures { result ≡ length (marks_of marks.now) }
 {
@@ -60,6 +61,7 @@ pub fn mark_at(marks: &[f64], i: usize) -> Mark
     }
 }
 
+#[tactic(auto, unfolding(crate::specs::Marks::point_of))]
 pub fn point_of(mark: Mark, side: Side) -> Point
     ensures { result ≡ point_of side mark }
 {
@@ -99,6 +101,7 @@ impl<'a> Points<'a> {
 }
 
 // The square of the distance of two points.
+#[tactic(auto, unfolding(crate::specs::Marks::squared_apart))]
 pub fn squared_apart(p: Point, q: Point) -> f64
     ensures { result ≡ squared_apart p q }
 {
@@ -108,10 +111,11 @@ pub fn squared_apart(p: Point, q: Point) -> f64
 }
 
 // Finite, and of magnitude at most 1e9: by two comparisons, since every mark is tested.
+#[tactic(auto, using(crate::proofs::Range::in_range, crate::proofs::Range::out_of_range))]
 fn in_range(x: f64) -> bool
     ensures { result ≡ within farthest x }
 {
-    if -1e9 <= x { x <= 1e9 } else { false }
+    -1e9 <= x && x <= 1e9
 }
 
 #[tactic(auto, unfolding(crate::specs::Marks::all_within))]

@@ -32,6 +32,7 @@ pub struct Projection {
 }
 
 // Where a point of the sheet is mapped to. It says something only where s > 0.
+#[tactic(auto, unfolding(crate::specs::Distance::projection_of))]
 pub fn project(h: Model, p: Point) -> Projection
     ensures { result ≡ projection_of h p }
 {
@@ -44,6 +45,7 @@ pub fn project(h: Model, p: Point) -> Projection
 }
 
 // How far a mapped point is from a mark's pixel, squared, by the row ratio.
+#[tactic(auto, unfolding(crate::specs::Distance::squared_residual))]
 pub fn squared_residual(to: Point, pixel: Point, ratio: f64) -> f64
     ensures { result ≡ squared_residual ratio to pixel }
 {
@@ -64,6 +66,7 @@ pub fn residual(h: Model, m: Mark, ratio: f64) -> Option<f64>
 }
 
 // Whether every number of a candidate is finite.
+#[tactic(auto, unfolding(crate::specs::Distance::model_numbers))]
 pub fn model_finite(h: Model) -> bool
     ensures { result ≡ all_finite (model_numbers h) }
 {
@@ -71,6 +74,7 @@ pub fn model_finite(h: Model) -> bool
     numbers::ensure_finite(&numbers)
 }
 
+#[tactic(auto, unfolding(crate::specs::Marks::mark_numbers))]
 fn mark_in_range(m: Mark) -> bool
     ensures { result ≡ all_within farthest (mark_numbers m) }
 {
