@@ -1,6 +1,6 @@
 -- Document 01, 'Distance', and document 02, orders 2 and 3: the projection by a homography, and the distance of a mark under it by the row ratio, or that the
 -- mark is beyond. (In the terms of the field, the reprojection residual.)
-use Rattle.std.specs.Prelude.{Bool, not, cond, List, [], ◌∷◌, Option, Some, None, Float}
+use Rattle.std.specs.Prelude.{Bool, not, cond, List, [], ◌∷◌, get_or, Option, Some, None, Float}
 use Rattle.std.specs.Float.Ieee.{lt, le}
 use Rattle.rule.specs.Refusal.{RECORD}
 use Rattle.rule.specs.Answer.{Answer}
@@ -20,6 +20,21 @@ use Rattle.sheet.specs.declared.model.Projection.{Projection}
 
 unfoldable pub model_numbers : Model → List Float
 model_numbers h = h.h0 ∷ h.h1 ∷ h.h2 ∷ h.h3 ∷ h.h4 ∷ h.h5 ∷ h.h6 ∷ h.h7 ∷ h.h8 ∷ []
+
+-- the model of nine numbers, row by row
+abbrev pub model_of : List Float → Model
+model_of l =
+    record {
+      h0 = get_or l 0 zero';
+      h1 = get_or l 1 zero';
+      h2 = get_or l 2 zero';
+      h3 = get_or l 3 zero';
+      h4 = get_or l 4 zero';
+      h5 = get_or l 5 zero';
+      h6 = get_or l 6 zero';
+      h7 = get_or l 7 zero';
+      h8 = get_or l 8 zero';
+    }
 
 -- s = (h6·x + h7·y) + h8, and the mapped u and v: ((h0·x + h1·y) + h2)/s and ((h3·x + h4·y) + h5)/s
 unfoldable pub projection_of : Model → Point → Projection

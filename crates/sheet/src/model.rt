@@ -5,7 +5,7 @@ ghost use Rattle.rule.specs.Answer.{told};
 ghost use Rattle.numbers.specs.Finite.{all_finite};
 ghost use Rattle.numbers.specs.Constants.{farthest};
 ghost use Rattle.sheet.specs.Marks.{all_within, mark_numbers};
-ghost use Rattle.sheet.specs.Distance.{projection_of, squared_residual, measure_of, distance_answer, measured, model_numbers};
+ghost use Rattle.sheet.specs.Distance.{projection_of, squared_residual, measure_of, distance_answer, measured, model_of, model_numbers};
 
 use crate::marks::{Mark, Point, Side, all_in_range, point_of};
 use rule::Refusal;
@@ -22,6 +22,38 @@ pub struct Model {
     pub h6: f64,
     pub h7: f64,
     pub h8: f64,
+}
+
+// Row by row.
+impl From<[f64; 9]> for Model {
+    ghost from_gives = { λ numbers h. h ≡ model_of numbers };
+
+    fn from(numbers: [f64; 9]) -> Model {
+        let [h0, h1, h2, h3, h4, h5, h6, h7, h8] = numbers;
+        Model {
+            h0,
+            h1,
+            h2,
+            h3,
+            h4,
+            h5,
+            h6,
+            h7,
+            h8,
+        }
+    }
+}
+
+impl Model {
+    // Row by row.
+    #[tactic(auto, unfolding(crate::specs::Distance::model_numbers))]
+    pub fn numbers(self) -> [f64; 9]
+        ensures { result ≡ model_numbers self }
+    {
+        [
+            self.h0, self.h1, self.h2, self.h3, self.h4, self.h5, self.h6, self.h7, self.h8,
+        ]
+    }
 }
 
 // What a homography makes of a point: the divisor s, and the point that it maps to.
@@ -66,12 +98,10 @@ pub fn residual(h: Model, m: Mark, ratio: f64) -> Option<f64>
 }
 
 // Whether every number of a candidate is finite.
-#[tactic(auto, unfolding(crate::specs::Distance::model_numbers))]
 pub fn model_finite(h: Model) -> bool
     ensures { result ≡ all_finite (model_numbers h) }
 {
-    let numbers = [h.h0, h.h1, h.h2, h.h3, h.h4, h.h5, h.h6, h.h7, h.h8];
-    numbers::ensure_finite(&numbers)
+    numbers::ensure_finite(&h.numbers())
 }
 
 #[tactic(auto, unfolding(crate::specs::Marks::mark_numbers))]
