@@ -1,20 +1,17 @@
 -- The bytes of a number in a lent list. Assumes nothing.
-use mathlib.Core.Path.{◌≡◌, refl, sym, ap, ◌∙◌}
-use mathlib.Core.List.{List, [], ◌++◌}
+use mathlib.Core.Path.{◌≡◌, refl, sym, ap, ap₂, ◌∙◌}
+use mathlib.Core.List.{List, [], ◌∷◌, ◌++◌}
 use Prim.Native.Nat.{ℕ, zero, suc, ◌+◌, ◌-◌, ◌*◌, ◌/◌, ◌%◌, ◌^◌, ◌≤◌, ◌<◌}
-use native.Mathlib.Nat.{zero-add, le_of_lt, le_trans, mul_assoc, mul-suc, mul-le-mul_left, mod-add-div, div-one, div-div-eq-div-mul, pow-zero, pow-succ', suc-add}
+use native.Mathlib.Nat.{zero-add, le_of_lt, le_trans, mul_assoc, mul-suc, mul-le-mul_left, mod-add-div, mul_comm, div-one, le-div_iff_mul-le, div-lt_iff_lt-mul, div-div-eq-div-mul, pow-zero, pow-suc, pow-succ', suc-add}
 use native.Mathlib.Omega.{arith}
 use borrow.Rule.Slice.PartMut.{mid_of, put_mid}
-use lib.ListN.{length, get_or, set}
+use lib.ListN.{length, get_or, drop}
 use lib.Ieee.{Float, binary64, to_bits}
+use Rattle.std.specs.Int.{byte_at, bytes_low_first}
 use Rattle.rule.specs.Lists.{for_each, replaced, filled}
-use Rattle.rule.proofs.Lists.{Written, none, same, more, no_room, all-filled, replaced-length, replaced_twice, filled_not, filled_sets, filled-replaced, part_filled}
-use Rattle.fields.specs.Fields.{bytes_of, double_bytes}
-
-pub bytes_wide : (w n : ℕ) → length (bytes_of w n) ≡ w
-unfolding bytes_of
-bytes_wide zero n = refl
-bytes_wide (suc w) n = ap suc (bytes_wide w (n / 256))
+use Rattle.rule.proofs.Lists.{Written, none, same, more, no_room, all-filled, replaced-length, replaced_twice, filled_not, filled_is, filled-replaced, part_filled}
+use Rattle.fields.specs.Fields.{bytes_of}
+pub use Rattle.fields.specs.Wide.{bytes_wide, double_wide}
 
 -- the lower bytes, then the higher
 pub bytes_add : (v w n : ℕ) → bytes_of (v + w) n ≡ bytes_of v n ++ bytes_of w (n / 256 ^ v)
@@ -35,18 +32,21 @@ higher (suc w) n k =
 pub low-bytes : (w n : ℕ) → bytes_of w (n % 256 ^ w) ≡ bytes_of w n
 low-bytes w n = sym (higher w (n % 256 ^ w) (n / 256 ^ w)) ∙ ap (bytes_of w) (mod-add-div n (256 ^ w))
 
+-- as the library puts a number into bytes
+pub low_first : (i k n : ℕ) → bytes_low_first i k n ≡ bytes_of k (n / 256 ^ i)
+unfolding bytes_of
+low_first i zero n = refl
+low_first i (suc k) n = ap₂ (λ b bs. b ∷ bs) (byte i) (low_first (suc i) k n ∙ ap (bytes_of k) (rw (pow-suc 256 i, div-div-eq-div-mul n (256 ^ i) 256)))
+  where
+    byte : (i : ℕ) → byte_at i n ≡ n / 256 ^ i % 256
+    byte zero = rw (pow-zero 256, div-one n)
+    byte (suc i) = refl
+
 -- ---- a number's bytes
 
-pub no_room_for : (w n : ℕ) (l : List ℕ) → length l < w → l ≡ filled (bytes_of w n) l
-no_room_for w n l h = filled_not (bytes_of w n) l (rw (bytes_wide w n) h)
-
-pub word_put : (n : ℕ) (l : List ℕ) → n < 0x1_0000_0000 → 4 ≤ length l
-    → set (set (set (set l 0 (n % 0x100)) 1 (n / 0x100 % 0x100)) 2 (n / 0x1_0000 % 0x100)) 3 (n / 0x100_0000) ≡ filled (bytes_of 4 n) l
-unfolding bytes_of
-word_put n l h g =
-    let e : n / 0x1_0000 % 0x100 ≡ n / 256 / 256 % 256 = omega arith in
-    let f : n / 0x100_0000 ≡ n / 256 / 256 / 256 % 256 = omega arith in
-    rw (e, f) (filled_sets (bytes_of 4 n) l g)
+-- by the library's bytes
+pub low_put : (w n : ℕ) (old : List ℕ) {bytes part : List ℕ} → bytes ≡ bytes_low_first 0 w n → part ≡ filled bytes old → part ≡ filled (bytes_of w n) old
+low_put w n old e f = f ∙ ap (λ bs. filled bs old) (e ∙ low_first 0 w n ∙ rw (pow-zero 256, div-one n))
 
 -- ---- lists one after the other from the front of a lent list, each into its own part
 
@@ -77,22 +77,9 @@ module _ {A : Type 0} (entry : List A) where
               ∙ replaced_twice 0 xs ys entry (rw (zero-add (length xs)) room);
         }
 
--- two words are a long
-pub long_put : (n : ℕ) (s : List ℕ) → 8 ≤ length s → {a b : List ℕ} → a ≡ filled (bytes_of 4 (n % 0x1_0000_0000)) (mid_of 0 (4 - 0) s)
-    → b ≡ filled (bytes_of 4 (n / 0x1_0000_0000)) (mid_of 4 (8 - 4) (put_mid 0 (4 - 0) s a)) → put_mid 4 (8 - 4) (put_mid 0 (4 - 0) s a) b ≡ filled (bytes_of 8 n) s
-long_put n s room {a} {b} d e =
-    let low = bytes_of 4 (n % 0x1_0000_0000) in
-    let high = bytes_of 4 (n / 0x1_0000_0000) in
-    let l : length low ≡ 4 = bytes_wide 4 (n % 0x1_0000_0000) in
-    let h : length high ≡ 4 = bytes_wide 4 (n / 0x1_0000_0000) in
-    let both : bytes_of 8 n ≡ low ++ high = bytes_add 4 4 n ∙ rw (low-bytes 4 n) in
-    let one = laid_more s (laid_none s) (omega arith) 0 4 low refl (rw l (omega arith)) (omega arith) d in
-    let two = laid_more s one (rw l (omega arith)) 4 8 high l (rw h (omega arith)) room e in
-    laid_all s two (rw (← both, bytes_wide 8 n) room) ∙ ap (λ xs. filled xs s) (sym both)
-
 -- ---- each element's bytes, w places each
 
-module _ {A : Type 0} (write : A → List ℕ) (w : ℕ) (wide : (a : A) → length (write a) ≡ w) (d : A) (l : List A) (entry : List ℕ) where
+module _ {A : Type 0} (write : A → List ℕ) (w : ℕ) (wide : (a : A) → length (write a) ≡ w) (l : List A) (entry : List ℕ) where
   -- the first i elements are written
   abbrev pub Put : ℕ → List ℕ → Type 0
   Put i s = Written write w wide l entry i s
@@ -114,19 +101,23 @@ module _ {A : Type 0} (write : A → List ℕ) (w : ℕ) (wide : (a : A) → len
         let f = put_same (le_of_lt h) in
         rw (e, f) (le_trans g room)
 
-    pub put_more : {part : List ℕ} → i < length l → part ≡ filled (write (get_or l i d)) (mid_of (w * i) (w * i + w - w * i) s)
-        → Put (i + 1) (put_mid (w * i) (w * i + w - w * i) s part)
-    put_more h e =
-        more write w wide l entry refl d h k refl
-        (part_filled (w * i) (w * i + w) (write (get_or l i d)) s (ap (λ j. w * i + j) (wide (get_or l i d))) (put_inside h) e)
+    -- v is the width as the code has it
+    pub put_more : {v : ℕ} → v ≡ w → {a : A} {part : List ℕ} → i < length l → a ≡ get_or l i a
+        → part ≡ filled (write a) (mid_of (v * i) (v * i + v - v * i) s) → Put (i + 1) (put_mid (v * i) (v * i + v - v * i) s part)
+    put_more {v} e {a} h is f =
+        more write w wide l entry refl a h k is
+        (rw e (part_filled (w * i) (w * i + w) (write a) s (ap (λ j. w * i + j) (wide a)) (put_inside h) (rw e at f)))
 
     pub put_all : i ≤ length l → length l ≤ i → s ≡ filled (for_each write l) entry
     put_all h g = all-filled write w wide l entry refl h g room k
 
--- a number's four bytes, and a double's eight
-pub word_wide : (n : ℕ) → length (bytes_of 4 n) ≡ 4
-word_wide n = bytes_wide 4 n
+-- the test of the room, by a division; v is the width as the code has it
+pub room_tested : (w n room : ℕ) {v : ℕ} → v ≡ w → 0 < w → n ≤ room / v → w * n ≤ room
+room_tested w n room e p h = rw (mul_comm w n) ((le-div_iff_mul-le p).0 (rw e at h))
 
-pub double_wide : (x : Float) → length (double_bytes x) ≡ 8
-unfolding double_bytes
-double_wide x = bytes_wide 8 (to_bits binary64 x)
+pub no_room_tested : (w n room : ℕ) {v : ℕ} → v ≡ w → 0 < w → room / v < n → room < w * n
+no_room_tested w n room e p h = rw (mul_comm w n) ((div-lt_iff_lt-mul p).0 (rw e at h))
+
+-- bytes copied to the front
+pub front_filled : (xs l : List ℕ) {copy : List ℕ} → copy ≡ xs → length xs ≤ length l → copy ++ drop (length xs) l ≡ filled xs l
+front_filled xs l e h = ap (λ c. c ++ drop (length xs) l) e ∙ sym (filled_is xs l h)

@@ -2,11 +2,13 @@
 // written to lists of bytes, each at its own multiple of its width.
 #![tactic(auto)]
 
-ghost use Rattle.std.specs.Prelude.{◌≡◌, ◌<◌, min};
+ghost use Rattle.std.specs.Prelude.{◌≡◌, ◌<◌, min, ℕ, List, length};
+ghost use Rattle.std.proofs.Common.{rules};
 ghost use Rattle.std.specs.Float.{binary64};
 ghost use Rattle.std.specs.Float.Ieee.{of_bits, to_bits};
 ghost use Rattle.rule.specs.Lists.{filled, for_each};
 ghost use Rattle.fields.specs.Fields.{byte_at, word_at, long_at, double_at, zero_bytes, words_of, bytes_of, double_bytes};
+ghost use Rattle.fields.specs.Wide.{bytes_wide, double_wide};
 
 // The byte at place `i`; 0 where there is none.
 pub fn byte_at(bytes: &[u8], i: usize) -> u8
@@ -97,30 +99,6 @@ pub fn zero_bytes(bytes: &[u8], from: usize, to: usize) -> bool
     true
 }
 
-// Writes a number's four bytes to the front of `part`, if it has room for them.
-pub fn put_word(part: &mut [u8], n: u32)
-    ensures { part.new ≡ filled (bytes_of 4 n) part.old }
-{
-    if part.len() < 4 {
-        return;
-    }
-    part[0] = (n % 0x100) as u8;
-    part[1] = (n / 0x100 % 0x100) as u8;
-    part[2] = (n / 0x1_0000 % 0x100) as u8;
-    part[3] = (n / 0x100_0000) as u8;
-}
-
-// Writes a number's eight bytes to the front of `part`, if it has room for them.
-pub fn put_long(part: &mut [u8], n: u64)
-    ensures { part.new ≡ filled (bytes_of 8 n) part.old }
-{
-    if part.len() < 8 {
-        return;
-    }
-    put_word(&mut part[0..4], (n % 0x1_0000_0000) as u32);
-    put_word(&mut part[4..8], (n / 0x1_0000_0000) as u32);
-}
-
 // Reads all four-byte fields into `words`, from its front, if it has room for them.
 pub fn read_words(bytes: &[u8], words: &mut [u32])
     ensures { words.new ≡ filled (words_of bytes.now) words.old }
@@ -136,43 +114,102 @@ pub fn read_words(bytes: &[u8], words: &mut [u32])
     }
 }
 
-// Writes each number's four bytes into `bytes`, from its front, if it has room for them.
-pub fn write_words(words: &[u32], bytes: &mut [u8])
-    ensures { bytes.new ≡ filled (for_each (bytes_of 4) words.now) bytes.old }
+// Writes bytes to the front of `part`, if it has room for them.
+#[tactic(auto, using(rule::proofs::Lists::filled_not, crate::proofs::Writing::front_filled))]
+fn lay(part: &mut [u8], bytes: &[u8])
+    ensures { part.new ≡ filled bytes.now part.old }
 {
-    let n = words.len();
-    if bytes.len() / 4 < n {
-        return;
-    }
-    let mut i = 0;
-    while i < n {
-        let a = 4 * i;
-        let e = a + 4;
-        put_word(&mut bytes[a..e], words[i]);
-        i += 1;
+    let n = bytes.len();
+    if n <= part.len() {
+        part[..n].copy_from_slice(bytes);
     }
 }
 
-// Writes a double's eight bytes to the front of `part`, if it has room for them.
-pub fn put_double(part: &mut [u8], x: f64)
-    ensures { part.new ≡ filled (double_bytes x) part.old }
-{
-    put_long(part, bits_of(x));
+// A number that files hold: by how many bytes, and by which.
+pub trait Field: Copy {
+    const WIDTH: usize;
+
+    ghost WIDTH: { ℕ };
+
+    ghost bytes: { Self → List ℕ };
+
+    // Writes the bytes to the front of `part`, if it has room for them.
+    fn put_to(self, part: &mut [u8])
+        ensures { part.new ≡ filled (bytes self) part.old };
+
+    ghost some: { 0 < WIDTH };
+
+    ghost wide: { (x : Self) → length (bytes x) ≡ WIDTH };
 }
 
-// Writes each double's eight bytes into `bytes`, from its front, if it has room for them.
-pub fn write_doubles(numbers: &[f64], bytes: &mut [u8])
-    ensures { bytes.new ≡ filled (for_each double_bytes numbers.now) bytes.old }
+impl Field for u32 {
+    const WIDTH: usize = 4;
+
+    ghost WIDTH = { 4 };
+
+    ghost bytes = { bytes_of 4 };
+
+    #[tactic(auto, using(crate::proofs::Writing::low_put))]
+    fn put_to(self, part: &mut [u8]) {
+        lay(part, &u32::to_le_bytes(self));
+    }
+
+    ghost some = { Prim.search rules };
+
+    ghost wide = { bytes_wide 4 };
+}
+
+impl Field for u64 {
+    const WIDTH: usize = 8;
+
+    ghost WIDTH = { 8 };
+
+    ghost bytes = { bytes_of 8 };
+
+    #[tactic(auto, using(crate::proofs::Writing::low_put))]
+    fn put_to(self, part: &mut [u8]) {
+        lay(part, &u64::to_le_bytes(self));
+    }
+
+    ghost some = { Prim.search rules };
+
+    ghost wide = { bytes_wide 8 };
+}
+
+impl Field for f64 {
+    const WIDTH: usize = 8;
+
+    ghost WIDTH = { 8 };
+
+    ghost bytes = { double_bytes };
+
+    #[tactic(auto, unfolding(crate::specs::Fields::double_bytes))]
+    fn put_to(self, part: &mut [u8]) {
+        bits_of(self).put_to(part);
+    }
+
+    ghost some = { Prim.search rules };
+
+    ghost wide = { double_wide };
+}
+
+// Writes a number's bytes to the front of `part`, if it has room for them.
+pub fn put<T: Field>(part: &mut [u8], x: T)
+    ensures { part.new ≡ filled (T.bytes x) part.old }
 {
-    let n = numbers.len();
-    if bytes.len() / 8 < n {
+    x.put_to(part);
+}
+
+// Writes each number's bytes into `bytes`, from its front, if it has room for them.
+pub fn write_all<T: Field>(items: &[T], bytes: &mut [u8])
+    ensures { bytes.new ≡ filled (for_each T.bytes items.now) bytes.old }
+{
+    let w = T::WIDTH;
+    if bytes.len() / w < items.len() {
         return;
     }
-    let mut i = 0;
-    while i < n {
-        let a = 8 * i;
-        let e = a + 8;
-        put_double(&mut bytes[a..e], numbers[i]);
-        i += 1;
+    for i in 0..items.len() {
+        let a = w * i;
+        put(&mut bytes[a..a + w], items[i]);
     }
 }
