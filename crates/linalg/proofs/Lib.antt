@@ -1,4 +1,3 @@
 pub mod Sums
 pub mod Changes
 pub mod Writing
-pub mod Outcomes

@@ -1,9 +1,11 @@
 -- Document 01, 'Normalising', of the points of one side: centroid, mean distance, scale, and the matrix of the change.
-use Rattle.std.specs.Prelude.{◌≡◌, ℕ, ◌*◌, Bool, ◌||◌, List, [], ◌∷◌, ◌++◌, length, drop, pos, ◌==◌, Float}
+use Rattle.std.specs.Prelude.{◌≡◌, ℕ, ◌*◌, Bool, ◌||◌, cond, List, [], ◌∷◌, ◌++◌, length, drop, pos, ◌==◌, Option, Some, None, Result, Float}
 use Rattle.std.specs.Float.{binary64}
 use Rattle.std.specs.Float.Ieee.{of_int, neg, le}
+use Rattle.rule.specs.declared.Refusal.{Refusal}
 use Rattle.rule.specs.Refusal.{SPREAD}
-use Rattle.rule.specs.Order.{Test, first_failed, if_passed, room}
+use Rattle.rule.specs.Answer.{Answer, answered}
+use Rattle.rule.specs.Order.{Test, first_failed, decided, if_passed, room}
 use Rattle.rule.specs.Arith.{◌⊖◌, ◌⊗◌, ◌⊘◌}
 use Rattle.rule.specs.Lists.{sum_from, for_each}
 use Rattle.root.specs.Root.{root_of}
@@ -31,11 +33,15 @@ unfoldable pub no_spread : List Point → Bool
 no_spread ps = length ps == 0 || le (mean_distance (centroid_of ps) ps) epsilon
 
 -- The change to normalised coordinates: in the terms of the field, the similarity of Hartley's normalising. scale = root(2) / mean.
--- `flat` is that there is no spread.
-unfoldable pub change_of : List Point → Change
-change_of ps =
+-- It says nothing where there is no spread.
+unfoldable pub similarity_of : List Point → Change
+similarity_of ps =
     let centre = centroid_of ps in
-    record { flat = no_spread ps; centre = centre; scale = root_of two ⊘ mean_distance centre ps }
+    record { centre = centre; scale = root_of two ⊘ mean_distance centre ps }
+
+-- that change, unless there is no spread
+unfoldable pub change_of : List Point → Option Change
+change_of ps = cond (no_spread ps) None (Some (similarity_of ps))
 
 -- (x−cx)·scale, (y−cy)·scale
 unfoldable pub normalized_by : Change → Point → Point
@@ -47,14 +53,6 @@ matrix_of c =
     record { cells = c.scale ∷ zero' ∷ neg c.scale ⊗ c.centre.x ∷ [] }
     ∷ record { cells = zero' ∷ c.scale ∷ neg c.scale ⊗ c.centre.y ∷ [] }
     ∷ record { cells = zero' ∷ zero' ∷ one ∷ [] }
-    ∷ []
-
--- what stands for the matrix on a refusal
-unfoldable pub no_matrix : List Row
-no_matrix =
-    record { cells = zero' ∷ zero' ∷ zero' ∷ [] }
-    ∷ record { cells = zero' ∷ zero' ∷ zero' ∷ [] }
-    ∷ record { cells = zero' ∷ zero' ∷ zero' ∷ [] }
     ∷ []
 
 -- a normalised point's two places in the lent list
@@ -76,8 +74,11 @@ normalize_tests l side places =
 unfoldable pub normalized_list : Change → List Point → List Float → List Float
 normalized_list c ps entry = for_each (λ p. pair_of (normalized_by c p)) ps ++ drop (2 * length ps) entry
 
+-- what the call answers, by how many places the lent list has
+unfoldable pub normalize_answer : List Float → Side → ℕ → Answer Normalized
+normalize_answer l side places = decided (first_failed (normalize_tests l side places)) (record { matrix = matrix_of (similarity_of (points side l)) })
+
 -- What the call answers, and what it leaves in the lent list.
-pub record Normalizing (l : List Float) (side : Side) (entry : List Float) (answer : Normalized) (exit : List Float) : Type 0 where
-  pub refusal : answer.refusal ≡ first_failed (normalize_tests l side (length entry))
-  pub matrix : answer.matrix ≡ if_passed answer.refusal (matrix_of (change_of (points side l))) no_matrix
-  pub list : exit ≡ if_passed answer.refusal (normalized_list (change_of (points side l)) (points side l) entry) entry
+pub record Normalizing (l : List Float) (side : Side) (entry : List Float) (answer : Result Normalized Refusal) (exit : List Float) : Type 0 where
+  pub told : answered answer ≡ normalize_answer l side (length entry)
+  pub list : exit ≡ if_passed (first_failed (normalize_tests l side (length entry))) (normalized_list (similarity_of (points side l)) (points side l) entry) entry

@@ -3,10 +3,12 @@
 #![tactic(auto)]
 
 ghost use Rattle.std.specs.Prelude.{◌≡◌, ◌*◌, ◌≤◌, length};
-ghost use Rattle.sheet.specs.Marks.{points as points_of, marks_of};
-ghost use Rattle.linalg.specs.Normalize.{centroid_of, mean_distance, change_of, normalized_by, pair_of, matrix_of, no_matrix, normalized_list, Normalizing};
+ghost use Rattle.sheet.specs.Marks.{points as points_of};
+ghost use Rattle.linalg.specs.Normalize.{centroid_of, mean_distance, change_of, normalized_by, matrix_of, normalized_list, Normalizing};
 
-use sheet::{Point, Side};
+use rule::Refusal;
+use sheet::{Point, Points};
+use std::f64::consts::SQRT_2;
 
 // A row of a 3 by 3 matrix.
 #[derive(Clone, Copy)]
@@ -14,89 +16,64 @@ pub struct Row {
     pub cells: [f64; 3],
 }
 
-// The change to normalised coordinates: subtract the centre, multiply by the scale. `flat` says that
-// the points have no spread, and then the rest says nothing.
+// The change to normalised coordinates: subtract the centre, multiply by the scale.
 #[derive(Clone, Copy)]
 pub struct Change {
-    pub flat: bool,
     pub centre: Point,
     pub scale: f64,
 }
 
-// What `normalize_points_2d` answers: 0 and the matrix of the change, or the number of the refusal
-// and zeros.
+// What `normalize_points_2d` gives: the matrix of the change.
 #[derive(Clone, Copy)]
 pub struct Normalized {
-    pub refusal: u32,
     pub matrix: [Row; 3],
 }
 
-pub fn centroid(marks: &[f64], side: Side) -> Point
-    ensures { result ≡ centroid_of (points_of side marks.now) }
+#[tactic(auto, unfolding(crate::specs::Normalize::centroid_of, crate::specs::Normalize::mean))]
+pub fn centroid(points: Points) -> Point
+    ensures { result ≡ centroid_of (points_of points.entry.side points.entry.marks.now) }
 {
-    let n = sheet::mark_count(marks);
     let mut x = 0.0;
     let mut y = 0.0;
-    let mut i = 0;
-    while i < n {
-        let p = sheet::point_at(marks, side, i);
-        x = x + p.x;
-        y = y + p.y;
-        i += 1;
+    for i in 0..points.len() {
+        let p = points.at(i);
+        x += p.x;
+        y += p.y;
     }
-    let count = std::num::nearest_u64_to_f64(n as u64);
+    let count = std::num::nearest_usize_to_f64(points.len());
     Point {
         x: x / count,
         y: y / count,
     }
 }
 
-// The points go in twos, since two roots together take less time than one after the other.
-pub fn mean_distance(marks: &[f64], side: Side, centre: Point) -> f64
-    ensures { result ≡ mean_distance centre (points_of side marks.now) }
+pub fn mean_distance(points: Points, centre: Point) -> f64
+    ensures { result ≡ mean_distance centre (points_of points.entry.side points.entry.marks.now) }
 {
-    let n = sheet::mark_count(marks);
     let mut sum = 0.0;
-    let mut i = 0;
-    while 1 < n - i {
-        let p = sheet::point_at(marks, side, i);
-        let q = sheet::point_at(marks, side, i + 1);
-        let two = root::sqrt_two(
-            sheet::squared_apart(p, centre),
-            sheet::squared_apart(q, centre),
-        );
-        sum = sum + two.first + two.second;
-        i += 2;
+    for i in 0..points.len() {
+        sum += root::sqrt(sheet::squared_apart(points.at(i), centre));
     }
-    let count = std::num::nearest_u64_to_f64(n as u64);
-    if i < n {
-        let last = sheet::point_at(marks, side, i);
-        return (sum + root::sqrt(sheet::squared_apart(last, centre))) / count;
-    }
-    sum / count
+    sum / std::num::nearest_usize_to_f64(points.len())
 }
 
-// The change that normalises one side. The root of 2 is a constant: that of the definition.
-pub fn change_of(marks: &[f64], side: Side) -> Change
-    ensures { result ≡ change_of (points_of side marks.now) }
+// The change that normalises one side; none where the points have no spread.
+#[tactic(auto, unfolding(crate::specs::Normalize::change_of, crate::specs::Normalize::similarity_of, crate::specs::Normalize::no_spread), using(crate::proofs::Changes::root_of_2))]
+pub fn change_of(points: Points) -> Option<Change>
+    ensures { result ≡ change_of (points_of points.entry.side points.entry.marks.now) }
 {
-    let centre = centroid(marks, side);
-    let mean = mean_distance(marks, side, centre);
-    let scale = 1.4142135623730951 / mean;
-    if sheet::mark_count(marks) == 0 {
-        return Change {
-            flat: true,
-            centre,
-            scale,
-        };
+    let centre = centroid(points);
+    let mean = mean_distance(points, centre);
+    if points.len() == 0 || mean <= f64::EPSILON {
+        return None;
     }
-    Change {
-        flat: mean <= 2.220446049250313e-16,
+    Some(Change {
         centre,
-        scale,
-    }
+        scale: SQRT_2 / mean,
+    })
 }
 
+#[tactic(auto, unfolding(crate::specs::Normalize::normalized_by))]
 pub fn normalize_point(change: Change, p: Point) -> Point
     ensures { result ≡ normalized_by change p }
 {
@@ -106,6 +83,7 @@ pub fn normalize_point(change: Change, p: Point) -> Point
     }
 }
 
+#[tactic(auto, unfolding(crate::specs::Normalize::matrix_of))]
 fn matrix_of(change: Change) -> [Row; 3]
     ensures { result ≡ matrix_of change }
 {
@@ -122,62 +100,32 @@ fn matrix_of(change: Change) -> [Row; 3]
     [r0, r1, r2]
 }
 
-// One point into its own two places.
-fn write_pair(part: &mut [f64], p: Point)
-    requires { length part.old ≡ 2 }
-    ensures { part.new ≡ pair_of p }
-{
-    part[0] = p.x;
-    part[1] = p.y;
-}
-
 // Every point of the side, normalised, into its own two places.
-fn write_points(marks: &[f64], side: Side, change: Change, points: &mut [f64])
-    requires { 2 * length (marks_of marks.now) ≤ length points.old }
-    ensures { points.new
-        ≡ normalized_list change (points_of side marks.now) points.old }
+fn write_points(points: Points, change: Change, lent: &mut [f64])
+    requires { 2 * length (points_of points.side points.marks.now) ≤ length lent.old }
+    ensures { lent.new
+        ≡ normalized_list change (points_of points.entry.side points.entry.marks.now) lent.old }
 {
-    let n = sheet::mark_count(marks);
-    let mut i = 0;
-    while i < n {
-        let a = 2 * i;
-        let e = a + 2;
-        let p = sheet::point_at(marks, side, i);
-        write_pair(&mut points[a..e], normalize_point(change, p));
-        i += 1;
-    }
-}
-
-fn refused(number: u32) -> Normalized
-    ensures { (result.refusal ≡ number) × (result.matrix ≡ no_matrix) }
-{
-    let zeros = Row {
-        cells: [0.0, 0.0, 0.0],
-    };
-    let matrix = [zeros, zeros, zeros];
-    Normalized {
-        refusal: number,
-        matrix,
+    for i in 0..points.len() {
+        let p = normalize_point(change, points.at(i));
+        lent[2 * i] = p.x;
+        lent[2 * i + 1] = p.y;
     }
 }
 
 // One side's points, normalised, into the lent list, x and y by turns, and the matrix of the change.
 // Refused with 5, 6, 12 or 9, in this order; the lent list then stays as it is.
-pub fn normalize_points_2d(marks: &[f64], side: Side, points: &mut [f64]) -> Normalized
-    ensures { Normalizing marks.now side points.old result points.new }
+#[tactic(auto, unfolding(rule::specs::Order::first_failed, rule::specs::Order::decided, rule::specs::Order::if_passed, rule::specs::Order::room, crate::specs::Normalize::change_of, crate::specs::Normalize::spread, crate::specs::Normalize::normalize_tests, crate::specs::Normalize::normalize_answer, sheet::specs::Marks::marks_tests, sheet::specs::Marks::shape, sheet::specs::Marks::point), using(crate::proofs::Writing::counts))]
+pub fn normalize_points_2d(points: Points, lent: &mut [f64]) -> Result<Normalized, Refusal>
+    ensures { Normalizing points.entry.marks.now points.entry.side lent.old result lent.new }
 {
-    let refusal = sheet::check_marks(marks);
-    if refusal != 0 {
-        return refused(refusal);
+    sheet::check_marks(points.marks)?;
+    let change = change_of(points).ok_or(Refusal::Spread)?;
+    if lent.len() < 2 * points.len() {
+        return Err(Refusal::Room);
     }
-    let change = change_of(marks, side);
-    if change.flat {
-        return refused(rule::SPREAD);
-    }
-    if points.len() < 2 * sheet::mark_count(marks) {
-        return refused(rule::ROOM);
-    }
-    write_points(marks, side, change, points);
-    let matrix = matrix_of(change);
-    Normalized { refusal: 0, matrix }
+    write_points(points, change, lent);
+    Ok(Normalized {
+        matrix: matrix_of(change),
+    })
 }

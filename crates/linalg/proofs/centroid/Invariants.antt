@@ -1,18 +1,7 @@
 -- `linalg::centroid` meets its contract. Assumes nothing.
-use Rattle.std.proofs.Common.{◌-◌, ◌≤◌}
-use lib.Ieee.{Float}
-use Rattle.sheet.specs.declared.marks.Point.{Point}
-use Rattle.linalg.proofs.Sums.{Owed}
+use Rattle.std.proofs.Common.{◌≡◌}
+use Rattle.linalg.proofs.Sums.{sum_of}
 use Rattle.linalg.proofs.centroid.Given as goal
 
-abbrev pub yOf : Point → Float
-yOf p = p.y
-
-abbrev pub xOf : Point → Float
-xOf p = p.x
-
 abbrev pub invariant-loop-i : goal.invariant-loop-i
-invariant-loop-i l = (l.i ≤ l.n) × (Owed xOf l.side l.marks l.x l.i × Owed yOf l.side l.marks l.y l.i)
-
-abbrev pub decreases-loop-i : goal.decreases-loop-i
-decreases-loop-i l = l.n - l.i
+invariant-loop-i l = (l.x ≡ sum_of (λ p. p.x) l.points.side l.points.marks.now l.i) × (l.y ≡ sum_of (λ p. p.y) l.points.side l.points.marks.now l.i)
