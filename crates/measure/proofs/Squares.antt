@@ -1,14 +1,16 @@
 -- The squares of a list of marks: one for each mark, and the distances are their roots; and the walk that stores them and counts the marks that are beyond.
 -- Assumes nothing.
-use mathlib.Core.Path.{◌≡◌, refl, sym, ap, ◌∙◌}
-use mathlib.Core.Bool.{Bool, true, false, not, cond, ◌&&◌}
+use mathlib.Core.Path.{◌≡◌, refl, sym, ◌∙◌}
+use mathlib.Core.Bool.{Bool, true, false, cond, ◌&&◌}
 use mathlib.Core.List.{List, [], ◌∷◌, map}
 use Prim.Native.Nat.{ℕ, ◌+◌, ◌≤◌, ◌<◌}
+use native.Mathlib.Omega.{arith}
 use borrow.Author.Tests.{lt-ltb, le-ltb}
 use lib.ListN.{length, get_or, set, length-map, get_or-map}
 use lib.Ieee.{Float, of_bits}
+use Rattle.std.specs.Int.{from_bool}
 use Rattle.rule.specs.Lists.{filled}
-use Rattle.rule.proofs.Lists.{count_asked, Counted, counted_none, counted_next, counted_past, counted-all, Stored, stored_none, stored_no_room, stored_same, stored_more, stored_all}
+use Rattle.rule.proofs.Lists.{count_asked, Counted, counted_none, counted_next, counted-all, Stored, stored_none, stored_no_room, stored_more, stored_all}
 use Rattle.root.specs.Root.{root_of}
 use Rattle.numbers.specs.Constants.{infinity}
 use Rattle.sheet.specs.Marks.{marks_of, mark_at, no_mark, point_of}
@@ -64,25 +66,18 @@ module _ (counting : Bool) (ratio : Float) (l : List Float) (h : Model) (entry :
         go false = refl
 
     module _ (room : n ≤ length entry) where
-      pub measured_same : {i found : ℕ} {s : List Float} → i ≤ n → Measured i found s → length s ≡ length entry
-      measured_same g k = stored_same _ _ many room g k.stored
-
-      module _ {i found : ℕ} {q : Float} {s : List Float} {m : Mark} (inside : i < n) (at : m ≡ mark_at l i) (square : q ≡ squared_of ratio h m) (k : Measured i found s) where
-        one_stored : Stored (squares_of ratio l h) entry (i + 1) (set s i q)
-        one_stored = stored_more _ _ many room (squared_of ratio h no_mark) inside (square ∙ ap (squared_of ratio h) at ∙ square-at ratio l h i) k.stored
-
-        pub measured_next : {ahead : Bool} {r : ℕ} → counting ≡ true → ahead ≡ not (beyond_under h m) → (r ≡ cond ahead 0 1) × (r ≤ 1) → Measured (i + 1) (found + r) (set s i q)
-        unfolding mark_at
-        measured_next e a one =
-            let is = one.0 ∙ ap (λ b. cond b 0 1) a ∙ turned (beyond_under h m) in
-            record { stored = one_stored; counted = counted_next far (marks_of l) no_mark {b = beyond_under h m} (rw (← count) inside) (rw (e, at)) (is, one.1) k.counted }
-          where
-            turned : (b : Bool) → ◌≡◌ {A = ℕ} (cond (not b) 0 1) (cond b 1 0)
-            turned true = refl
-            turned false = refl
-
-        pub measured_past : counting ≡ false → Measured (i + 1) found (set s i q)
-        measured_past e = record { stored = one_stored; counted = counted_past far (marks_of l) no_mark (rw (← count) inside) (rw e) k.counted }
+      pub measured_more : {i found r : ℕ} {q : Float} {s : List Float} {b : Bool} → i < n → q ≡ squared_of ratio h (mark_at l i) → b ≡ far (mark_at l i) → r ≡ from_bool b → Measured i found s
+          → Measured (i + 1) (found + r) (set s i q)
+      unfolding mark_at
+      measured_more {i} {b = b} inside square answer one k =
+          record {
+            stored = stored_more _ _ many room (squared_of ratio h no_mark) inside (square ∙ square-at ratio l h i) k.stored;
+            counted = counted_next far (marks_of l) no_mark (rw (← count) inside) answer (one ∙ (counts b).0, rw one (counts b).1) k.counted;
+          }
+        where
+          counts : (b : Bool) → (from_bool b ≡ cond b 1 0) × (from_bool b ≤ 1)
+          counts true = (refl, omega arith)
+          counts false = (refl, omega arith)
 
       pub measured_all : {i found : ℕ} {s : List Float} → i ≤ n → n ≤ i → Measured i found s → (found ≡ beyond_found counting l h entry) × (s ≡ filled (squares_of ratio l h) entry)
       unfolding beyond_found beyond_of if_counted

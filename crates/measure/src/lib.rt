@@ -4,51 +4,30 @@
 // threshold.
 #![tactic(auto)]
 
-ghost use Rattle.std.specs.Prelude.{◌≡◌, cond, not, ◌≤◌};
+ghost use Rattle.std.specs.Prelude.{◌≡◌, is_none, unwrap_or};
 ghost use Rattle.rule.specs.Lists.{filled};
+ghost use Rattle.numbers.specs.Constants.{infinity};
 ghost use Rattle.sheet.specs.Distance.{beyond_under};
 ghost use Rattle.measure.specs.Distances.{squared_of, squares_of, beyond_found};
 
 use sheet::{Mark, Model, Side};
 
-// The square of a mark's distance, infinite where the mark is beyond, and whether it is not.
-#[derive(Clone, Copy)]
-struct Squared {
-    square: f64,
-    ahead: bool,
-}
-
-// Beyond unless s > 0. The square is worked out either way, so that the compiler has a choice of two
-// numbers and no jump.
-fn squared_mark(h: Model, ratio: f64, m: Mark) -> Squared
-    ensures square_value { result.square ≡ squared_of ratio h m }
-    ensures ahead_value { result.ahead ≡ not (beyond_under h m) }
+// The square of a mark's distance; none where the mark is beyond, that is unless s > 0. It is worked out
+// either way, so that the compiler may make it a choice of two numbers and no jump.
+#[tactic(auto, unfolding(crate::specs::Distances::squared_of, sheet::specs::Distance::beyond_under))]
+fn squared_mark(h: Model, ratio: f64, m: Mark) -> Option<f64>
+    ensures square_value { unwrap_or result infinity ≡ squared_of ratio h m }
+    ensures beyond_value { is_none result ≡ beyond_under h m }
 {
     let to = sheet::project(h, sheet::point_of(m, Side::Sheet));
     let square = sheet::squared_residual(to.at, sheet::point_of(m, Side::Pixel), ratio);
-    if to.s > 0.0 {
-        Squared {
-            square,
-            ahead: true,
-        }
-    } else {
-        Squared {
-            square: f64::from_bits(0x7ff0_0000_0000_0000),
-            ahead: false,
-        }
-    }
-}
-
-fn one_unless(b: bool) -> usize
-    ensures { (result ≡ cond b 0 1) × (result ≤ 1) }
-{
-    if b { 0 } else { 1 }
+    (to.s > 0.0).then_some(square)
 }
 
 // Writes the square of each mark's distance to the front of `squares`, and answers how many marks are
 // beyond, if they are to be counted; where it has not a place for each mark, it writes nothing and
-// answers 0. The compiler makes a walk that counts and one that doesn't, so who doesn't ask for the
-// number pays nothing for it.
+// answers 0. The walk takes as long whether it counts or not, so who doesn't ask for the number pays
+// nothing for it.
 pub fn squared_residuals(
     h: Model,
     ratio: f64,
@@ -64,14 +43,10 @@ pub fn squared_residuals(
         return 0;
     }
     let mut beyond = 0;
-    let mut i = 0;
-    while i < n {
-        let q = squared_mark(h, ratio, sheet::mark_at(marks, i));
-        squares[i] = q.square;
-        i += 1;
-        if counting {
-            beyond += one_unless(q.ahead);
-        }
+    for i in 0..n {
+        let square = squared_mark(h, ratio, sheet::mark_at(marks, i));
+        squares[i] = square.unwrap_or(f64::INFINITY);
+        beyond += usize::from(counting && square.is_none());
     }
     beyond
 }
