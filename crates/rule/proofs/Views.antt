@@ -1,5 +1,6 @@
 -- From the case of an answer's enum to what it stands for: what is read off the case is what is read off the answer. Assumes nothing.
 use mathlib.Core.Path.{◌≡◌, refl, sym, ap, ◌∙◌}
+use native.Mathlib.Omega.{arith}
 use Rattle.std.specs.Prelude.{ℕ, Result, Ok, Err, List, [], ◌∷◌, get_or}
 use Rattle.rule.specs.declared.Refusal.{Refusal}
 use Rattle.rule.specs.declared.Refusal.TheVariants as Refusals
@@ -58,6 +59,25 @@ numbered Refusals.SheetLine = refl
 numbered Refusals.PixelLine = refl
 numbered Refusals.Number = refl
 numbered Refusals.Ratio = refl
+
+-- 0 is no refusal's number
+pub number_above_0 : {A : Type 0} (e : Refusal) → number_of e ≡ 0 → A
+number_above_0 Refusals.Record h = absurd (omega (arith, h))
+number_above_0 Refusals.Thresh h = absurd (omega (arith, h))
+number_above_0 Refusals.Confidence h = absurd (omega (arith, h))
+number_above_0 Refusals.Iters h = absurd (omega (arith, h))
+number_above_0 Refusals.Shape h = absurd (omega (arith, h))
+number_above_0 Refusals.Point h = absurd (omega (arith, h))
+number_above_0 Refusals.Few h = absurd (omega (arith, h))
+number_above_0 Refusals.Stops h = absurd (omega (arith, h))
+number_above_0 Refusals.Room h = absurd (omega (arith, h))
+number_above_0 Refusals.Ended h = absurd (omega (arith, h))
+number_above_0 Refusals.NoWinner h = absurd (omega (arith, h))
+number_above_0 Refusals.Spread h = absurd (omega (arith, h))
+number_above_0 Refusals.SheetLine h = absurd (omega (arith, h))
+number_above_0 Refusals.PixelLine h = absurd (omega (arith, h))
+number_above_0 Refusals.Number h = absurd (omega (arith, h))
+number_above_0 Refusals.Ratio h = absurd (omega (arith, h))
 
 module _ {A B : Type 0} (view : A → B) (back : B → A) (undone : (a : A) → back (view a) ≡ a) where
   result_of : Answer B → Result A Refusal

@@ -4,6 +4,7 @@
 
 ghost use Rattle.std.specs.Prelude.{◌≡◌};
 ghost use Rattle.rule.specs.Refusal.{number_of};
+ghost use Rattle.rule.specs.Answer.{refusal_in};
 
 use std::error::Error;
 use std::fmt;
@@ -45,6 +46,16 @@ impl fmt::Display for Refusal {
 }
 
 impl Error for Refusal {}
+
+// 0, or the number of the refusal: as C is answered.
+pub fn number<T: Copy>(answer: Result<T, Refusal>) -> u32
+    ensures { result ≡ refusal_in answer }
+{
+    match answer {
+        Ok(_) => 0,
+        Err(refusal) => refusal as u32,
+    }
+}
 
 pub const RECORD: u32 = 1;
 
