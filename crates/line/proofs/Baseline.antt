@@ -1,11 +1,11 @@
 -- Collinear in one pass: the points before the first that is apart from point 0, point 0 among them, are passed over. Assumes nothing.
 use mathlib.Core.Path.{◌≡◌, refl, sym, ap, ◌∙◌}
-use mathlib.Core.Bool.{Bool, true, false, not, cond}
+use mathlib.Core.Bool.{Bool, true, false}
 use mathlib.Core.Logic.{◌⊎◌, inl, inr, ⊎_elim}
 use mathlib.Core.List.{List, [], ◌∷◌}
-use Prim.Native.Nat.{ℕ, suc, ◌+◌, ◌*◌, ◌≤◌, ◌<◌}
+use Prim.Native.Nat.{ℕ, zero, suc, ◌+◌, ◌-◌, ◌*◌, ◌≤◌, ◌<◌}
 use native.Mathlib.Numerals.{add-one}
-use native.Mathlib.Nat.{add-zero, mul-pos, zero-mul, zero-lt-suc, le_refl, sub_self}
+use native.Mathlib.Nat.{mul-pos, zero-mul, zero-lt-suc, le_refl, sub_self}
 use native.Mathlib.Omega.{arith}
 use borrow.Author.Tests.{lt-ltb, le-ltb}
 use lib.IntN.{ℤ}
@@ -14,18 +14,19 @@ use lib.Seq.{drop-cons}
 use lib.Ieee.{Float, nan, inf, fin, binary64, up, down, of_bits, round, neg, sum, add, sub, mul, lt}
 use lib.Ieee.Fits.{down_pos}
 use lib.Ieee.Scale.{round_same}
+use Rattle.std.specs.Prelude.{Option, Some, None}
+use Rattle.std.specs.Option.{MatchOption}
+use Rattle.std.specs.List.{range_with_len}
+use Rattle.std.proofs.lemmas.Option.{MatchOption-at_none, MatchOption-at_some}
 use Rattle.rule.specs.Arith.{◌⊕◌, ◌⊖◌, ◌⊗◌}
 use Rattle.rule.specs.Lists.{every}
-use Rattle.rule.proofs.Tests.{and_true, and_false}
-use Rattle.rule.proofs.Lists.{every_next, every-stops, every_end}
 use Rattle.root.specs.Root.{root_of}
-use Rattle.numbers.specs.Constants.{zero', same_point, on_line}
-use Rattle.numbers.specs.Finite.{abs_of}
-use Rattle.sheet.specs.Marks.{marks_of, points, point_at, squared_apart}
+use Rattle.numbers.specs.Constants.{zero', same_point}
+use Rattle.sheet.specs.Marks.{points, point_at, squared_apart}
 use Rattle.sheet.specs.declared.marks.Point.{Point}
 use Rattle.sheet.specs.declared.marks.Side.{Side}
-use Rattle.sheet.proofs.Places.{points-count, no_point, point-read}
-use Rattle.line.specs.Collinear.{apart, cross_of, on_baseline, straight, collinear, near_count}
+use Rattle.sheet.proofs.Places.{no_point, point-read}
+use Rattle.line.specs.Collinear.{apart, on_baseline, straight, collinear}
 
 -- ---- a point is not apart from itself
 
@@ -69,150 +70,88 @@ pub apart_itself : (p : Point) → apart p p ≡ false
 unfolding apart squared_apart
 apart_itself p = not_far (added (squared (minus_itself p.x)) (squared (minus_itself p.y)))
 
--- ---- the first point that is apart from p0
+-- ---- the first point that is apart from p0, at place i: none of the points before it is
 
-module _ (p0 : Point) where
+module _ (p0 d : Point) where
+  abbrev pub Near : List Point → ℕ → Type 0
+  Near ps i = (k : ℕ) → k < i → apart p0 (get_or ps k d) ≡ false
+
   -- it ends the baseline
-  pub ended : (ps all : List Point) (d : Point) → near_count p0 ps < length ps → straight p0 ps all ≡ every (on_baseline p0 (get_or ps (near_count p0 ps) d)) all
-  unfolding near_count straight
-  ended [] all d h = absurd (omega (arith, h))
-  ended (p ∷ ps) all d h = go (apart p0 p) (λ k. ended ps all d k) h
-    where
-      go : (b : Bool) → (near_count p0 ps < length ps → straight p0 ps all ≡ every (on_baseline p0 (get_or ps (near_count p0 ps) d)) all)
-          → cond b 0 (suc (near_count p0 ps)) < suc (length ps)
-          → cond b (every (on_baseline p0 p) all) (straight p0 ps all) ≡ every (on_baseline p0 (get_or (p ∷ ps) (cond b 0 (suc (near_count p0 ps))) d)) all
-      go true rest k = refl
-      go false rest k = rest (omega (arith, k))
+  pub ended : (ps all : List Point) (i : ℕ) → i < length ps → Near ps i → apart p0 (get_or ps i d) ≡ true → straight p0 ps all ≡ every (on_baseline p0 (get_or ps i d)) all
+  unfolding straight
+  ended [] all i h n a = absurd (omega (arith, h))
+  ended (p ∷ ps) all zero h n a = rw a
+  ended (p ∷ ps) all (suc i) h n a = rw (n 0 (omega arith)) (ended ps all i (omega arith) (λ k l. n (suc k) (omega arith)) a)
 
   -- and where there is none, the points count as one
-  pub together : (ps all : List Point) → length ps ≤ near_count p0 ps → straight p0 ps all ≡ true
-  unfolding near_count straight
-  together [] all h = refl
-  together (p ∷ ps) all h = go (apart p0 p) (λ k. together ps all k) h
-    where
-      go : (b : Bool) → (length ps ≤ near_count p0 ps → straight p0 ps all ≡ true) → suc (length ps) ≤ cond b 0 (suc (near_count p0 ps))
-          → cond b (every (on_baseline p0 p) all) (straight p0 ps all) ≡ true
-      go true rest k = absurd (omega (arith, k))
-      go false rest k = rest (omega (arith, k))
+  pub together : (ps all : List Point) → Near ps (length ps) → straight p0 ps all ≡ true
+  unfolding straight
+  together [] all n = refl
+  together (p ∷ ps) all n = rw (n 0 (omega arith)) (together ps all (λ k l. n (suc k) (omega arith)))
 
   -- the points before it are on every baseline
   near_passes : (q p : Point) → apart p0 p ≡ false → on_baseline p0 q p ≡ true
   unfolding on_baseline
   near_passes q p h = rw h
 
-  pub passed_over : (q : Point) (ps : List Point) → every (on_baseline p0 q) (drop (near_count p0 ps) ps) ≡ every (on_baseline p0 q) ps
-  unfolding near_count
-  passed_over q [] = refl
-  passed_over q (p ∷ ps) = go (apart p0 p) refl (passed_over q ps)
-    where
-      go : (b : Bool) → apart p0 p ≡ b → every (on_baseline p0 q) (drop (near_count p0 ps) ps) ≡ every (on_baseline p0 q) ps
-          → every (on_baseline p0 q) (drop (cond b 0 (suc (near_count p0 ps))) (p ∷ ps)) ≡ every (on_baseline p0 q) (p ∷ ps)
-      go true e rest = refl
-      go false e rest = rw (near_passes q p e) rest
+  pub passed_over : (q : Point) (ps : List Point) (i : ℕ) → Near ps i → every (on_baseline p0 q) (drop i ps) ≡ every (on_baseline p0 q) ps
+  passed_over q ps zero n = refl
+  passed_over q [] (suc i) n = refl
+  passed_over q (p ∷ ps) (suc i) n = rw (near_passes q p (n 0 (omega arith))) (passed_over q ps i (λ k l. n (suc k) (omega arith)))
 
-  -- ---- counting them, from place i on
-
-  module _ (ps : List Point) (d : Point) where
-    pub count_next : (i : ℕ) → i < length ps → apart p0 (get_or ps i d) ≡ false → i + near_count p0 (drop i ps) ≡ i + 1 + near_count p0 (drop (i + 1) ps)
-    unfolding near_count
-    count_next i h e = rw (add-one i, drop-cons ps i d h, e) (omega arith)
-
-    pub count-stops : (i : ℕ) → i < length ps → apart p0 (get_or ps i d) ≡ true → i ≡ i + near_count p0 (drop i ps)
-    unfolding near_count
-    count-stops i h e = rw (drop-cons ps i d h, e) (sym (add-zero i))
-
-    pub count_end : (i : ℕ) → length ps ≤ i → i ≡ i + near_count p0 (drop i ps)
-    unfolding near_count
-    count_end i h = rw (drop_of_length-le ps h) (sym (add-zero i))
-
-few-points : (ps : List Point) → length ps < 3 → false ≡ collinear ps
+-- fewer than three points; or three or more, of which the first is p0
+pub few-points : (ps : List Point) → length ps < 3 → false ≡ collinear ps
 unfolding collinear
 few-points [] h = refl
 few-points (q ∷ later) h = rw (lt-ltb (suc (length later)) 3 h)
 
--- three points or more, of which p0 is the first
 pub from_first : (ps : List Point) (d : Point) → 3 ≤ length ps → collinear ps ≡ straight (get_or ps 0 d) ps ps
 unfolding collinear straight
 from_first [] d h = absurd (omega (arith, h))
 from_first (q ∷ later) d h = rw (le-ltb (suc (length later)) 3 h, apart_itself q)
 
--- ---- one point, against a baseline
-
-module _ (p0 p1 p : Point) {x a : Float} (crossed : x ≡ cross_of p0 p1 p) (size : a ≡ abs_of x) where
-  size_is : lt on_line (abs_of (cross_of p0 p1 p)) ≡ lt on_line a
-  size_is = ap (lt on_line) (sym (size ∙ ap abs_of crossed))
-
-  pub beside : {r : Bool} → lt on_line a ≡ true → r ≡ apart p0 p → not r ≡ on_baseline p0 p1 p
-  unfolding on_baseline
-  beside h e = rw (size_is, h, and_true (apart p0 p), e)
-
-  pub close : lt on_line a ≡ false → true ≡ on_baseline p0 p1 p
-  unfolding on_baseline
-  close h = rw (size_is, h, and_false (apart p0 p))
-
--- ---- one side of a list of marks
+-- ---- the points of one side, place by place
 
 module _ (side : Side) (l : List Float) where
-  -- what near_count has still to count, at place i
-  pub record Left (p0 : Point) (i : ℕ) : Type 0 where
-    pub rest : near_count p0 (points side l) ≡ i + near_count p0 (drop i (points side l))
+  -- a test of the points from place a on
+  every_place : (test : Point → Bool) (a n : ℕ) → a + n ≡ length (points side l) → every (λ i. test (point_at side l i)) (range_with_len a n) ≡ every test (drop a (points side l))
+  every_place test a zero h = rw (drop_of_length-le (points side l) {i = a} (omega (arith, h)))
+  every_place test a (suc n) h =
+      rw (drop-cons (points side l) a (no_point side) (omega (arith, h)), point-read side l a, every_place test (a + 1) n (omega (arith, h)), add-one a)
 
-  pub record Unseen (test : Point → Bool) (from i : ℕ) : Type 0 where
-    pub rest : every test (drop from (points side l)) ≡ every test (drop i (points side l))
+  -- none of the points before place i is apart from p0
+  abbrev Passed : Point → ℕ → Type 0
+  Passed p0 i = (k : ℕ) → 0 ≤ k → k < i → apart p0 (point_at side l k) ≡ false
 
-  module _ {n : ℕ} (count : n ≡ length (marks_of l)) where
-    length_is : length (points side l) ≡ n
-    length_is = points-count side l ∙ sym count
+  abbrev Ends : (n : ℕ) → Point → ℕ → Type 0
+  Ends n p0 i = (0 ≤ i) × (i < n) × (apart p0 (point_at side l i) ≡ true) × Passed p0 i
 
-    module _ {p0 p : Point} {i : ℕ} (at : p ≡ point_at side l i) (inside : i < n) (k : Left p0 i) {r : Bool} (tested : r ≡ apart p0 p) where
-      the_point : get_or (points side l) i (no_point side) ≡ p
-      the_point = point-read side l i ∙ sym at
+  -- the place of the first of n points that is apart from p0
+  abbrev pub First : (n : ℕ) → Point → Option ℕ → Type 0
+  First n p0 found = MatchOption found (Passed p0 n) (Ends n p0)
 
-      pub left_next : r ≡ false → Left p0 (i + 1)
-      left_next h =
-          record { rest = k.rest ∙ count_next p0 (points side l) (no_point side) i (rw length_is inside) (rw the_point (sym tested ∙ h)) }
+  near : (p0 : Point) (i : ℕ) → Passed p0 i → Near p0 (no_point side) (points side l) i
+  near p0 i passed k h = rw (point-read side l k) (passed k (omega arith) h)
 
-      pub left_found : r ≡ true → i ≡ near_count p0 (points side l)
-      left_found h = count-stops p0 (points side l) (no_point side) i (rw length_is inside) (rw the_point (sym tested ∙ h)) ∙ sym k.rest
-
-    pub left-none : {p0 : Point} {i : ℕ} → i ≤ n → n ≤ i → Left p0 i → n ≡ near_count p0 (points side l)
-    left-none {p0} {i} g h k =
-        let e : n ≡ i = omega arith in
-        e ∙ count_end p0 (points side l) (no_point side) i (rw length_is h) ∙ sym k.rest
-
-    -- what a test of every point from `from` on has still to see, at place i
-    module _ (test : Point → Bool) (from : ℕ) where
-      module _ {p : Point} {i : ℕ} (at : p ≡ point_at side l i) (inside : i < n) (k : Unseen test from i) {r : Bool} (tested : r ≡ test p) where
-        seen : {b : Bool} → r ≡ b → test (get_or (points side l) i (no_point side)) ≡ b
-        seen h = ap test (point-read side l i ∙ sym at) ∙ sym tested ∙ h
-
-        pub unseen_next : r ≡ true → Unseen test from (i + 1)
-        unseen_next h = record { rest = k.rest ∙ every_next test (points side l) (no_point side) i (rw length_is inside) (seen h) }
-
-        pub unseen_stops : r ≡ false → false ≡ every test (drop from (points side l))
-        unseen_stops h = every-stops test (points side l) (no_point side) i (rw length_is inside) (seen h) ∙ sym k.rest
-
-      pub unseen_none : {i : ℕ} → n ≤ i → Unseen test from i → true ≡ every test (drop from (points side l))
-      unseen_none {i} h k = every_end test (points side l) (no_point side) i (rw length_is h) ∙ sym k.rest
-
-    -- the answer
+  module _ {n : ℕ} (count : n ≡ length (points side l)) where
     pub line_few : n < 3 → false ≡ collinear (points side l)
-    line_few h = few-points (points side l) (rw length_is h)
+    line_few h = few-points (points side l) (rw (← count) h)
 
-    module _ (enough : 3 ≤ n) {p0 : Point} (at : p0 ≡ point_at side l 0) {k : ℕ} (found : k ≡ near_count p0 (points side l)) where
+    module _ (enough : 3 ≤ n) {p0 : Point} (at : p0 ≡ point_at side l 0) where
       start : collinear (points side l) ≡ straight p0 (points side l) (points side l)
-      start = from_first (points side l) (no_point side) (rw length_is enough) ∙ ap (λ p. straight p (points side l) (points side l)) (point-read side l 0 ∙ sym at)
+      start = from_first (points side l) (no_point side) (rw (← count) enough) ∙ ap (λ p. straight p (points side l) (points side l)) (point-read side l 0 ∙ sym at)
 
-      pub line_none : n ≤ k → true ≡ collinear (points side l)
-      line_none h = sym (start ∙ together p0 (points side l) (points side l) (rw (length_is, ← found) h))
+      pub line_none : {found : Option ℕ} → First n p0 found → found ≡ None → true ≡ collinear (points side l)
+      line_none first is =
+          let passed = MatchOption-at_none (Passed p0 n) (Ends n p0) is first in
+          sym (start ∙ together p0 (no_point side) (points side l) (points side l) (rw (← count) (near p0 n passed)))
 
-      pub line_tested : {p1 : Point} {r : Bool} → k < n → p1 ≡ point_at side l k → r ≡ every (on_baseline p0 p1) (drop k (points side l)) → r ≡ collinear (points side l)
-      line_tested {p1} {r} h to e =
+      pub line_tested : {found : Option ℕ} {i : ℕ} {p1 : Point} {r : Bool} → First n p0 found → found ≡ Some i → p1 ≡ point_at side l i
+          → r ≡ every (λ j. on_baseline p0 p1 (point_at side l j)) (range_with_len i (n - i)) → r ≡ collinear (points side l)
+      line_tested {i = i} {p1 = p1} first is to e =
+          let ends = MatchOption-at_some (Passed p0 n) (Ends n p0) i is first in
           e
-          ∙ ap (λ i. every (on_baseline p0 p1) (drop i (points side l))) found
-          ∙ passed_over p0 p1 (points side l)
-          ∙ ap (λ q. every (on_baseline p0 q) (points side l)) end
-          ∙ sym (start ∙ ended p0 (points side l) (points side l) (no_point side) (rw (length_is, ← found) h))
-        where
-          end : p1 ≡ get_or (points side l) (near_count p0 (points side l)) (no_point side)
-          end = to ∙ sym (point-read side l k) ∙ ap (λ i. get_or (points side l) i (no_point side)) found
+          ∙ every_place (on_baseline p0 p1) i (n - i) (rw (← count) (omega (arith, ends.1)))
+          ∙ passed_over p0 (no_point side) p1 (points side l) i (near p0 i ends.3)
+          ∙ ap (λ q. every (on_baseline p0 q) (points side l)) (to ∙ sym (point-read side l i))
+          ∙ sym (start ∙ ended p0 (no_point side) (points side l) (points side l) i (rw (← count) ends.1) (near p0 i ends.3) (rw (point-read side l i) ends.2))

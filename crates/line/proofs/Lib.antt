@@ -1,4 +1,3 @@
 pub mod Near
 pub mod Baseline
-pub mod Outcomes
 pub mod View

@@ -1,7 +1,7 @@
 -- Document 01, 'Collinear', of the points of one side.
-use Rattle.std.specs.Prelude.{Bool, true, false, not, ◌&&◌, cond, List, [], ◌∷◌, ℕ, suc, ltb, length, Float}
+use Rattle.std.specs.Prelude.{Bool, true, false, not, ◌&&◌, cond, List, [], ◌∷◌, ltb, length, Float}
 use Rattle.std.specs.Float.Ieee.{lt}
-use Rattle.rule.specs.Answer.{Answer, refused, gives}
+use Rattle.rule.specs.Answer.{Answer}
 use Rattle.rule.specs.Order.{first_failed, decided}
 use Rattle.rule.specs.Arith.{◌⊖◌, ◌⊗◌}
 use Rattle.rule.specs.Lists.{every}
@@ -11,8 +11,6 @@ use Rattle.numbers.specs.Finite.{abs_of}
 use Rattle.sheet.specs.Marks.{points, squared_apart, marks_tests}
 use Rattle.sheet.specs.declared.marks.Point.{Point}
 use Rattle.sheet.specs.declared.marks.Side.{Side}
-use Rattle.line.specs.declared.Collinear.{Collinear}
-use Rattle.line.specs.declared.Collinear.TheVariants.{Yes, No, Refused}
 
 -- p is more than 1e-9 away from p0
 unfoldable pub apart : Point → Point → Bool
@@ -35,18 +33,7 @@ unfoldable pub collinear : List Point → Bool
 collinear [] = false
 collinear (p0 ∷ later) = cond (ltb (length (p0 ∷ later)) 3) false (straight p0 later (p0 ∷ later))
 
--- how many points there are before the first that is apart from p0
-unfoldable pub near_count : Point → List Point → ℕ
-near_count p0 [] = 0
-near_count p0 (p ∷ ps) = cond (apart p0 p) 0 (suc (near_count p0 ps))
-
 -- ---- the entry
 
 unfoldable pub collinear_answer : List Float → Side → Answer Bool
 collinear_answer l side = decided (first_failed (marks_tests l)) (collinear (points side l))
-
--- what each case of the entry's answer stands for
-unfoldable pub view_collinear : Collinear → Answer Bool
-view_collinear Yes = gives true
-view_collinear No = gives false
-view_collinear (Refused k) = refused k
