@@ -80,8 +80,8 @@ fn limits_of(thresh: f64) -> Limits
     let roots = root::sqrt_two(low, high);
     Limits {
         thresh,
-        low: low_limit(thresh, low, roots.first),
-        high: high_limit(thresh, high, roots.second),
+        low: low_limit(thresh, low, roots.0),
+        high: high_limit(thresh, high, roots.1),
     }
 }
 
@@ -189,7 +189,7 @@ fn add_root(s: Sum, square: f64) -> Sum
     if s.waits {
         let d = root::sqrt_two(s.waiting, square);
         return Sum {
-            total: s.total + d.first * d.first + d.second * d.second,
+            total: s.total + d.0 * d.0 + d.1 * d.1,
             waits: false,
             waiting: 0.0,
         };
