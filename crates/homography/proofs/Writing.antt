@@ -1,22 +1,42 @@
 -- The rows of the marks in the lent list, eighteen places each. Assumes nothing.
 use mathlib.Core.Path.{◌≡◌, refl, ap, ◌∙◌}
-use mathlib.Core.List.{List, ◌++◌}
-use Prim.Native.Nat.{ℕ, ◌+◌, ◌-◌, ◌*◌, ◌≤◌, ◌<◌}
+use mathlib.Core.List.{List, [], ◌∷◌, ◌++◌}
+use Prim.Native.Nat.{ℕ, zero, suc, ◌+◌, ◌-◌, ◌*◌, ◌≤◌, ◌<◌}
 use native.Mathlib.Omega.{arith}
 use borrow.Rule.Slice.PartMut.{put_mid}
-use lib.ListN.{length}
+use lib.ListN.{length, set, replicate}
 use lib.Ieee.{Float}
 use Rattle.rule.specs.Lists.{replaced}
-use Rattle.rule.proofs.Lists.{Written, none, same, all, more, part_replaced, replaced_twice}
+use Rattle.rule.proofs.Lists.{Written, none, all, more, part_replaced, replaced_twice}
+use Rattle.numbers.specs.Constants.{zero'}
 use Rattle.sheet.specs.Marks.{marks_of, mark_at, point_of, no_mark}
 use Rattle.sheet.specs.declared.marks.Mark.{Mark}
 use Rattle.sheet.specs.declared.marks.Point.{Point}
 use Rattle.sheet.specs.declared.marks.Side.TheVariants.{Sheet, Pixel}
 use Rattle.linalg.specs.Normalize.{normalized_by}
 use Rattle.linalg.specs.declared.Change.{Change}
-use Rattle.homography.specs.Rows.{u_row, v_row, mark_rows, rows_list}
+use Rattle.homography.specs.Rows.{row_at, u_row, v_row, mark_rows, rows_list}
+
+-- ---- one row: zeros, then three places from `at` on, then the last three
+
+pub stored : (at : ℕ) (a b c d e f : Float) → at + 3 ≤ 6
+    → set (set (set (set (set (set (replicate 9 zero') at a) (at + 1) b) (at + 2) c) 6 d) 7 e) 8 f ≡ replaced at (a ∷ b ∷ c ∷ []) (zero' ∷ zero' ∷ zero' ∷ zero' ∷ zero' ∷ zero' ∷ []) ++ (d ∷ e ∷ f ∷ [])
+unfolding replaced
+stored zero a b c d e f h = refl
+stored (suc zero) a b c d e f h = refl
+stored (suc (suc zero)) a b c d e f h = refl
+stored (suc (suc (suc zero))) a b c d e f h = refl
+stored (suc (suc (suc (suc at)))) a b c d e f h = absurd (omega (arith, h))
 
 -- ---- one mark: a row's part after the other's
+
+first_third : (p : Point) (u : Float) → row_at 0 p u ≡ u_row p u
+unfolding row_at u_row replaced
+first_third p u = refl
+
+second_third : (p : Point) (v : Float) → row_at 3 p v ≡ v_row p v
+unfolding row_at v_row replaced
+second_third p v = refl
 
 u_wide : (p : Point) (u : Float) → length (u_row p u) ≡ 9
 unfolding u_row
@@ -43,10 +63,10 @@ module _ (i : ℕ) (p q : Point) (s : List Float) (room : 18 * i + 18 ≤ length
       part_replaced (9 * (2 * i) + 9) (9 * (2 * i) + 9 + 9) v t (ap (λ k. 9 * (2 * i) + 9 + k) (v_wide p q.y))
       ∙ ap (λ k. replaced k v t) (rw (u_wide p q.x) (let e : 9 * (2 * i) + 9 ≡ 18 * i + 9 = omega arith in e))
 
-  pub two_rows : {a b : List Float} → a ≡ u → b ≡ v
+  pub two_rows : {a b : List Float} → a ≡ row_at 0 p q.x → b ≡ row_at 3 p q.y
       → put_mid (9 * (2 * i) + 9) (9 * (2 * i) + 9 + 9 - (9 * (2 * i) + 9)) (put_mid (9 * (2 * i)) (9 * (2 * i) + 9 - 9 * (2 * i)) s a) b ≡ replaced (18 * i) (u ++ v) s
   two_rows d e =
-      rw (d, e, first) (second (replaced (18 * i) u s) ∙ replaced_twice (18 * i) u v s (rw (u_wide p q.x) (omega arith)))
+      rw (d, e, first_third p q.x, second_third p q.y, first) (second (replaced (18 * i) u s) ∙ replaced_twice (18 * i) u v s (rw (u_wide p q.x) (omega arith)))
 
 -- ---- all marks
 
@@ -63,9 +83,6 @@ module _ (sheet pixel : Change) (l entry : List Float) where
   rows_none = none (mark_rows sheet pixel) 18 (rows_wide sheet pixel) (marks_of l) entry
 
   module _ {n : ℕ} (count : n ≡ length (marks_of l)) where
-    pub rows_same : {i : ℕ} {s : List Float} → i ≤ n → 18 * length (marks_of l) ≤ length entry → Rows i s → length s ≡ length entry
-    rows_same h room k = same (mark_rows sheet pixel) 18 (rows_wide sheet pixel) (marks_of l) entry count h (rw count room) k
-
     module _ {i : ℕ} {s : List Float} (inside : i < n) (k : Rows i s) {m : Mark} (at : m ≡ mark_at l i) where
       pub rows_more : {x u p q : Point} {t : List Float} → x ≡ point_of Sheet m → p ≡ normalized_by sheet x → u ≡ point_of Pixel m → q ≡ normalized_by pixel u
           → t ≡ replaced (18 * i) (u_row p q.x ++ v_row p q.y) s → Rows (i + 1) t

@@ -1,18 +1,24 @@
 -- Document 01, 'Rows': two rows of nine to each mark, from normalised sheet x, y and pixel u, v.
-use Rattle.std.specs.Prelude.{◌≡◌, ◌||◌, List, [], ◌∷◌, ◌++◌, ℕ, ◌*◌, length, drop, Float}
+use Rattle.std.specs.Prelude.{◌≡◌, ◌||◌, List, [], ◌∷◌, ◌++◌, ℕ, ◌*◌, length, drop, Result, Float}
 use Rattle.std.specs.Float.Ieee.{neg}
+use Rattle.rule.specs.declared.Refusal.{Refusal}
+use Rattle.rule.specs.Answer.{refusal_in}
 use Rattle.rule.specs.Refusal.{SPREAD, SHEET_LINE, PIXEL_LINE}
 use Rattle.rule.specs.Order.{Test, first_failed, if_passed, room}
 use Rattle.rule.specs.Arith.{◌⊗◌}
-use Rattle.rule.specs.Lists.{for_each}
+use Rattle.rule.specs.Lists.{for_each, replaced}
 use Rattle.numbers.specs.Constants.{zero', one}
 use Rattle.sheet.specs.Marks.{marks_of, point_of, points, few, marks_tests}
 use Rattle.sheet.specs.declared.marks.Mark.{Mark}
 use Rattle.sheet.specs.declared.marks.Point.{Point}
 use Rattle.sheet.specs.declared.marks.Side.TheVariants.{Sheet, Pixel}
-use Rattle.linalg.specs.Normalize.{no_spread, change_of, normalized_by}
+use Rattle.linalg.specs.Normalize.{no_spread, similarity_of, normalized_by}
 use Rattle.linalg.specs.declared.Change.{Change}
 use Rattle.line.specs.Collinear.{collinear}
+
+-- nine places: −x, −y, −1 from place `at` on, 0 in the other three of the first six, then w·x, w·y, w
+unfoldable pub row_at : ℕ → Point → Float → List Float
+row_at at p w = replaced at (neg p.x ∷ neg p.y ∷ neg one ∷ []) (zero' ∷ zero' ∷ zero' ∷ zero' ∷ zero' ∷ zero' ∷ []) ++ (w ⊗ p.x ∷ w ⊗ p.y ∷ w ∷ [])
 
 -- −x, −y, −1, 0, 0, 0, u·x, u·y, u
 unfoldable pub u_row : Point → Float → List Float
@@ -51,6 +57,6 @@ rows_tests l places =
     marks_tests l ++ (few l ∷ sheet_line l ∷ pixel_line l ∷ spreads l ∷ room (18 * length (marks_of l)) places ∷ [])
 
 -- What the call answers, and what it leaves in the lent list.
-pub record Rowing (l entry : List Float) (answer : ℕ) (exit : List Float) : Type 0 where
-  pub refusal : answer ≡ first_failed (rows_tests l (length entry))
-  pub list : exit ≡ if_passed answer (rows_list (change_of (points Sheet l)) (change_of (points Pixel l)) l entry) entry
+pub record Rowing (l entry : List Float) (answer : Result (Unit {0}) Refusal) (exit : List Float) : Type 0 where
+  pub refusal : refusal_in answer ≡ first_failed (rows_tests l (length entry))
+  pub list : exit ≡ if_passed (first_failed (rows_tests l (length entry))) (rows_list (similarity_of (points Sheet l)) (similarity_of (points Pixel l)) l entry) entry

@@ -6,45 +6,31 @@
 ghost use Rattle.std.specs.Prelude.{◌≡◌, ◌++◌, ◌+◌, ◌*◌, ◌≤◌, length};
 ghost use Rattle.rule.specs.Lists.{replaced};
 ghost use Rattle.sheet.specs.Marks.{marks_of};
-ghost use Rattle.homography.specs.Rows.{u_row, v_row, rows_list, Rowing};
+ghost use Rattle.homography.specs.Rows.{row_at, u_row, v_row, rows_list, Rowing};
 
-use linalg::Change;
+use linalg::{Change, change_of};
 use line::on_one_line;
-use sheet::{Point, Side};
+use rule::Refusal;
+use sheet::{Point, Points, Side};
 
-// The row of a mark's u: −x, −y, −1, 0, 0, 0, u·x, u·y, u.
-fn write_u_row(part: &mut [f64], p: Point, u: f64)
-    requires { length part.old ≡ 9 }
-    ensures { part.new ≡ u_row p u }
+// A row: −x, −y, −1 from place `at` on, 0 in the other three of the first six places, then w·x, w·y, w.
+#[tactic(auto, unfolding(crate::specs::Rows::row_at), using(crate::proofs::Writing::stored))]
+fn write_row(part: &mut [f64], at: usize, p: Point, w: f64)
+    requires nine { length part.old ≡ 9 }
+    requires before_six { at + 3 ≤ 6 }
+    ensures { part.new ≡ row_at at p w }
 {
-    part[0] = -p.x;
-    part[1] = -p.y;
-    part[2] = -1.0;
-    part[3] = 0.0;
-    part[4] = 0.0;
-    part[5] = 0.0;
-    part[6] = u * p.x;
-    part[7] = u * p.y;
-    part[8] = u;
-}
-
-// The row of a mark's v: 0, 0, 0, −x, −y, −1, v·x, v·y, v.
-fn write_v_row(part: &mut [f64], p: Point, v: f64)
-    requires { length part.old ≡ 9 }
-    ensures { part.new ≡ v_row p v }
-{
-    part[0] = 0.0;
-    part[1] = 0.0;
-    part[2] = 0.0;
-    part[3] = -p.x;
-    part[4] = -p.y;
-    part[5] = -1.0;
-    part[6] = v * p.x;
-    part[7] = v * p.y;
-    part[8] = v;
+    part.fill(0.0);
+    part[at] = -p.x;
+    part[at + 1] = -p.y;
+    part[at + 2] = -1.0;
+    part[6] = w * p.x;
+    part[7] = w * p.y;
+    part[8] = w;
 }
 
 // The two rows of mark `i`, from its normalised points: each into its own part, at 9 times the row.
+#[tactic(auto, using(crate::proofs::Writing::two_rows))]
 fn write_mark(rows: &mut [f64], i: usize, p: Point, q: Point)
     requires { 18 * i + 18 ≤ length rows.old }
     ensures { rows.new ≡ replaced (18 * i) (u_row p q.x ++ v_row p q.y) rows.old }
@@ -53,55 +39,52 @@ fn write_mark(rows: &mut [f64], i: usize, p: Point, q: Point)
     let a = 9 * row;
     let b = a + 9;
     let e = b + 9;
-    write_u_row(&mut rows[a..b], p, q.x);
-    write_v_row(&mut rows[b..e], p, q.y);
+    write_row(&mut rows[a..b], 0, p, q.x);
+    write_row(&mut rows[b..e], 3, p, q.y);
 }
 
 fn write_rows(marks: &[f64], sheet: Change, pixel: Change, rows: &mut [f64])
     requires { 18 * length (marks_of marks.now) ≤ length rows.old }
     ensures { rows.new ≡ rows_list sheet pixel marks.now rows.old }
 {
-    let n = sheet::mark_count(marks);
-    let mut i = 0;
-    while i < n {
+    for i in 0..sheet::mark_count(marks) {
         let m = sheet::mark_at(marks, i);
         let p = linalg::normalize_point(sheet, sheet::point_of(m, Side::Sheet));
         let q = linalg::normalize_point(pixel, sheet::point_of(m, Side::Pixel));
         write_mark(rows, i, p, q);
-        i += 1;
     }
 }
 
-// The rows of all marks into the lent list, the rest of which stays. It answers 0, or refuses with 5,
-// 6, 7, 13, 14, 12 or 9, in this order, and then the lent list stays as it is.
-pub fn dlt_rows(marks: &[f64], rows: &mut [f64]) -> u32
+// The rows of all marks into the lent list, the rest of which stays. Refused with 5, 6, 7, 13, 14, 12 or
+// 9, in this order; the lent list then stays as it is.
+#[tactic(auto, unfolding(rule::specs::Order::first_failed, rule::specs::Order::if_passed, rule::specs::Order::room, linalg::specs::Normalize::change_of, sheet::specs::Marks::marks_tests, sheet::specs::Marks::shape, sheet::specs::Marks::point, sheet::specs::Marks::few, crate::specs::Rows::rows_tests, crate::specs::Rows::sheet_line, crate::specs::Rows::pixel_line, crate::specs::Rows::spreads), using(sheet::proofs::Places::count))]
+pub fn dlt_rows(marks: &[f64], rows: &mut [f64]) -> Result<(), Refusal>
     ensures { Rowing marks.now rows.old result rows.new }
 {
-    let refusal = sheet::check_marks(marks);
-    if refusal != 0 {
-        return refusal;
-    }
+    sheet::check_marks(marks)?;
     let n = sheet::mark_count(marks);
     if n < 4 {
-        return rule::FEW;
+        return Err(Refusal::Few);
     }
-    if on_one_line(marks, Side::Sheet) {
-        return rule::SHEET_LINE;
+    let on_sheet = Points {
+        marks,
+        side: Side::Sheet,
+    };
+    let as_pixels = Points {
+        marks,
+        side: Side::Pixel,
+    };
+    if on_one_line(on_sheet) {
+        return Err(Refusal::SheetLine);
     }
-    if on_one_line(marks, Side::Pixel) {
-        return rule::PIXEL_LINE;
+    if on_one_line(as_pixels) {
+        return Err(Refusal::PixelLine);
     }
-    let sheet = linalg::change_of(marks, Side::Sheet);
-    let pixel = linalg::change_of(marks, Side::Pixel);
-    if sheet.flat {
-        return rule::SPREAD;
-    }
-    if pixel.flat {
-        return rule::SPREAD;
-    }
+    let sheet = change_of(on_sheet).ok_or(Refusal::Spread)?;
+    let pixel = change_of(as_pixels).ok_or(Refusal::Spread)?;
     if rows.len() < 18 * n {
-        return rule::ROOM;
+        return Err(Refusal::Room);
     }
     write_rows(marks, sheet, pixel, rows);
-    0
+    Ok(())
 }

@@ -115,7 +115,3 @@ module _ (p0 p : Point) {d : Float} (is : d ≡ squared_apart p p0) where
   pub is_apart : le high d ≡ true → true ≡ apart p0 p
   unfolding apart
   is_apart h = sym (far (squared_apart p p0) (square_fits p p0) (subst (λ x. T (le high x)) is (is_test (le high d) h)))
-
-  pub by_root : {y : Float} → y ≡ root_of d → lt same_point y ≡ apart p0 p
-  unfolding apart
-  by_root e = rw (e, is)

@@ -12,6 +12,7 @@ use sheet::{Point, Points};
 
 // Whether `p` is more than 1e-9 from `p0`. The first two tests spare the root, which no double's
 // square distance asks for: their limits are neighbours, and the root of the lower one is 1e-9.
+#[tactic(auto, unfolding(crate::specs::Collinear::apart), using(crate::proofs::Near::is_apart, crate::proofs::Near::not_apart))]
 fn is_apart(p0: Point, p: Point) -> bool
     ensures { result ≡ apart p0 p }
 {
