@@ -4,3 +4,4 @@ pub mod Formed
 pub mod View
 pub mod Whole
 pub mod Short
+pub mod Bits

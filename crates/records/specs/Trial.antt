@@ -1,14 +1,17 @@
 -- Document 01, 'Trials': the 152-byte record. Byte 0 fit mark, byte 1 refit mark, six zero bytes, nine doubles of the fit, nine of the refit.
-use Rattle.std.specs.Prelude.{Bool, not, cond, ◌&&◌, ◌||◌, List, [], ◌∷◌, map, ℕ, leb, eqb, length, get_or, take, drop, replicate}
+use Rattle.std.specs.Prelude.{Bool, not, cond, ◌&&◌, ◌||◌, List, [], ◌∷◌, map, ℕ, leb, eqb, length, get_or, take, drop, replicate, Float}
+use Rattle.std.specs.List.{range_with_len}
 use Rattle.std.specs.Float.{binary64}
-use Rattle.std.specs.Float.Ieee.{of_bits}
+use Rattle.std.specs.Float.Ieee.{of_bits, to_bits}
 use Rattle.rule.specs.Refusal.{RECORD}
 use Rattle.rule.specs.Answer.{Answer}
 use Rattle.rule.specs.Order.{Test, first_failed, decided}
 use Rattle.rule.specs.Lists.{every}
+use Rattle.numbers.specs.Constants.{zero'}
 use Rattle.numbers.specs.Finite.{all_finite}
 use Rattle.sheet.specs.declared.model.Model.{Model}
 use Rattle.book.specs.Score.{Trial, unfitted, fitted, refitted}
+use Rattle.fields.specs.Fields.{double_at}
 use Rattle.fields.specs.Packing.{size_of, unpacked}
 use Rattle.records.specs.declared.trial.Recorded.{Recorded}
 use Rattle.records.specs.declared.trial.Recorded.TheVariants.{Empty, Fit, Refit}
@@ -25,19 +28,23 @@ fit_bits f = take 9 (drop 3 f)
 unfoldable pub refit_bits : (fields : List ℕ) → List ℕ
 refit_bits f = take 9 (drop 12 f)
 
-unfoldable pub model_from : (bits : List ℕ) → Model
-model_from bits =
+-- a model's numbers, row by row
+unfoldable pub model_of : List Float → Model
+model_of l =
     record {
-      h0 = of_bits binary64 (get_or bits 0 0);
-      h1 = of_bits binary64 (get_or bits 1 0);
-      h2 = of_bits binary64 (get_or bits 2 0);
-      h3 = of_bits binary64 (get_or bits 3 0);
-      h4 = of_bits binary64 (get_or bits 4 0);
-      h5 = of_bits binary64 (get_or bits 5 0);
-      h6 = of_bits binary64 (get_or bits 6 0);
-      h7 = of_bits binary64 (get_or bits 7 0);
-      h8 = of_bits binary64 (get_or bits 8 0);
+      h0 = get_or l 0 zero';
+      h1 = get_or l 1 zero';
+      h2 = get_or l 2 zero';
+      h3 = get_or l 3 zero';
+      h4 = get_or l 4 zero';
+      h5 = get_or l 5 zero';
+      h6 = get_or l 6 zero';
+      h7 = get_or l 7 zero';
+      h8 = get_or l 8 zero';
     }
+
+unfoldable pub model_from : (bits : List ℕ) → Model
+model_from bits = model_of (map (of_bits binary64) bits)
 
 -- the mark in the field at place k is set
 unfoldable pub marked : (fields : List ℕ) → ℕ → Bool
@@ -50,6 +57,14 @@ marks_formed fit refit = leb fit 1 && (leb refit 1 && (eqb fit 1 || not (eqb ref
 -- Marked numbers are finite, unmarked ones zero bytes (so −0 is none).
 unfoldable pub numbers_formed : (mark : Bool) → (bits : List ℕ) → Bool
 numbers_formed mark bits = cond mark (all_finite (map (of_bits binary64) bits)) (every (λ b. eqb b 0) bits)
+
+-- the same of the numbers themselves
+unfoldable pub doubles_formed : (mark : Bool) → (numbers : List Float) → Bool
+doubles_formed mark l = cond mark (all_finite l) (every (λ x. eqb (to_bits binary64 x) 0) l)
+
+-- two marks, the numbers of a fit and those of a refit, from which a record can be made
+unfoldable pub parts_formed : (fit_mark refit_mark : ℕ) → (fit refit : List Float) → Bool
+parts_formed a b fit refit = marks_formed a b && (doubles_formed (eqb a 1) fit && doubles_formed (eqb b 1) refit)
 
 -- the marks, the filler, the numbers of the fit and those of the refit
 unfoldable pub trial_sound : (fields : List ℕ) → Bool
@@ -65,6 +80,10 @@ trial_from f =
     (cond (marked f 0) (fitted (model_from (fit_bits f))) unfitted)
 
 -- ---- the record
+
+-- the nine numbers at the front of some bytes
+unfoldable pub nine_in : List ℕ → List Float
+nine_in l = map (λ k. double_at l k) (range_with_len 0 9)
 
 -- the length, and the fields
 unfoldable pub trial_formed : List ℕ → Bool

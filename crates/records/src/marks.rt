@@ -1,12 +1,13 @@
 // A mark file (document 01, 'Marks'): 32 bytes a mark, read mark by mark.
-ghost use Rattle.std.specs.Prelude.{◌≡◌, get_or, length};
+ghost use Rattle.std.specs.Prelude.{◌≡◌, get_or};
 ghost use Rattle.rule.specs.Lists.{filled};
-ghost use Rattle.sheet.specs.Marks.{no_mark, mark_numbers};
+ghost use Rattle.sheet.specs.Marks.{no_mark};
 ghost use Rattle.records.specs.Marks.{marks_in, numbers_in};
 
 use sheet::Mark;
 
 // The mark at place `i` of a file; all zeros where there is none.
+#[tactic(auto, using(crate::proofs::Reading::mark_read, crate::proofs::Reading::no_mark_read))]
 pub fn read_mark(bytes: &[u8], i: usize) -> Mark
     ensures { result ≡ get_or (marks_in bytes.now) i no_mark }
 {
@@ -28,19 +29,9 @@ pub fn read_mark(bytes: &[u8], i: usize) -> Mark
     }
 }
 
-// Writes a mark's numbers to their own four places.
-fn put_mark(part: &mut [f64], m: Mark)
-    requires { length part.old ≡ 4 }
-    ensures { part.new ≡ mark_numbers m }
-{
-    part[0] = m.x;
-    part[1] = m.y;
-    part[2] = m.u;
-    part[3] = m.v;
-}
-
 // Reads all marks of a file into `numbers`, four numbers a mark, from its front, if it has room for
 // them.
+#[tactic(auto, using(crate::proofs::Reading::numbers_no_room, crate::proofs::Reading::numbers_none, crate::proofs::Reading::numbers_more, crate::proofs::Reading::numbers_all), unfolding(sheet::specs::Marks::mark_numbers))]
 pub fn read_marks(bytes: &[u8], numbers: &mut [f64])
     ensures { numbers.new ≡ filled (numbers_in bytes.now) numbers.old }
 {
@@ -48,11 +39,8 @@ pub fn read_marks(bytes: &[u8], numbers: &mut [f64])
     if numbers.len() / 4 < n {
         return;
     }
-    let mut i = 0;
-    while i < n {
-        let a = 4 * i;
-        let e = a + 4;
-        put_mark(&mut numbers[a..e], read_mark(bytes, i));
-        i += 1;
+    for i in 0..n {
+        let m = read_mark(bytes, i);
+        numbers[4 * i..4 * i + 4].copy_from_slice(&[m.x, m.y, m.u, m.v]);
     }
 }

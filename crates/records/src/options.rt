@@ -1,12 +1,9 @@
 // The options of a run (document 01, 'Options'; `RansacOptions` of ransac.rs, without the seed), with the
 // row ratio of document 02, order 3.
-ghost use Rattle.std.specs.Prelude.{◌≡◌, cond, eqb, length};
+ghost use Rattle.std.specs.Prelude.{◌≡◌};
 ghost use Rattle.rule.specs.Answer.{answered, refusal_in};
 ghost use Rattle.rule.specs.Order.{first_failed};
-ghost use Rattle.numbers.specs.Constants.{one};
-ghost use Rattle.fields.specs.Fields.{double_at};
-ghost use Rattle.fields.specs.Packing.{size_of};
-ghost use Rattle.records.specs.Options.{layout_by, usual_options, options_answer, options_tests};
+ghost use Rattle.records.specs.Options.{usual_options, options_answer, options_tests};
 
 use rule::Refusal;
 
@@ -36,6 +33,7 @@ impl RansacOptions {
     pub const RATIO: f64 = 1.0;
 
     // The defaults around a threshold. It tests nothing: the opening does.
+    #[tactic(auto, unfolding(crate::specs::Options::usual_options))]
     pub fn new(thresh: f64) -> RansacOptions
         ensures { result ≡ usual_options thresh }
     {
@@ -50,34 +48,22 @@ impl RansacOptions {
     }
 }
 
-// Whether a record may have this length: 40 bytes, or 32 without a ratio.
-fn options_sized(len: usize) -> bool
-    ensures { result ≡ eqb len (size_of (layout_by len)) }
-{
-    if len == 32 { true } else { len == 40 }
-}
-
-// The ratio at the end of a record; 1 where it has none.
-fn ratio_at(bytes: &[u8]) -> f64
-    ensures { result ≡ cond (eqb (length bytes.now) 32) one (double_at bytes.now 4) }
-{
-    if bytes.len() == 32 {
-        return RansacOptions::RATIO;
-    }
-    fields::double_at(bytes, 4)
-}
-
-// The options of a record; refused with 1 where it is none. The numbers are not tested.
+// The options of a record of 40 bytes, or of 32 without a ratio; refused with 1 where it is none. The
+// numbers are not tested.
+#[tactic(auto, using(crate::proofs::Formed::options_read))]
 pub fn read_options(bytes: &[u8]) -> Result<RansacOptions, Refusal>
     ensures { answered result ≡ options_answer bytes.now }
 {
-    if !options_sized(bytes.len()) {
-        return Err(Refusal::Record);
-    }
-    let refit = fields::byte_at(bytes, 24);
-    if 1 < refit {
-        return Err(Refusal::Record);
-    }
+    let ratio = match bytes.len() {
+        32 => RansacOptions::RATIO,
+        40 => fields::double_at(bytes, 4),
+        _ => return Err(Refusal::Record),
+    };
+    let refit = match fields::byte_at(bytes, 24) {
+        0 => false,
+        1 => true,
+        _ => return Err(Refusal::Record),
+    };
     if !fields::zero_bytes(bytes, 25, 32) {
         return Err(Refusal::Record);
     }
@@ -86,8 +72,8 @@ pub fn read_options(bytes: &[u8]) -> Result<RansacOptions, Refusal>
         confidence: fields::double_at(bytes, 1),
         max_iters: fields::word_at(bytes, 4),
         min_inliers: fields::word_at(bytes, 5),
-        refit: refit == 1,
-        ratio: ratio_at(bytes),
+        refit,
+        ratio,
     })
 }
 

@@ -1,11 +1,14 @@
 // One trial as the fitter records it (document 01, 'Trials'): a fit and perhaps its refit, or none.
-ghost use Rattle.std.specs.Prelude.{◌≡◌, ◌+◌, ◌*◌, ◌≤◌, length, take, drop};
+ghost use Rattle.std.specs.Prelude.{◌≡◌, eqb};
+ghost use Rattle.std.specs.Float.{binary64};
+ghost use Rattle.std.specs.Float.Ieee.{to_bits};
+ghost use Rattle.rule.specs.Lists.{every};
 ghost use Rattle.rule.specs.Answer.{told};
-ghost use Rattle.fields.specs.Fields.{longs_of};
-ghost use Rattle.records.specs.Trial.{model_from, marks_formed, numbers_formed, trial_formed, trial_answer, view_recorded};
+ghost use Rattle.records.specs.Trial.{nine_in, model_of, marks_formed, doubles_formed, parts_formed, trial_answer, view_recorded};
 
 use rule::Refusal;
 use sheet::Model;
+use std::array;
 
 #[derive(Clone, Copy)]
 pub struct Refitted {
@@ -21,91 +24,89 @@ pub enum Recorded {
     Refit(Refitted),
 }
 
-// The nine numbers from the double at place `i` on.
-fn model_at(bytes: &[u8], i: usize) -> Model
-    requires { i ≤ 10 }
-    ensures { result ≡ model_from (take 9 (drop i (longs_of bytes.now))) }
+// The nine numbers at the front of `bytes`.
+#[tactic(auto, unfolding(crate::specs::Trial::nine_in))]
+fn nine_in(bytes: &[u8]) -> [f64; 9]
+    ensures { result ≡ nine_in bytes.now }
 {
-    Model {
-        h0: fields::double_at(bytes, i),
-        h1: fields::double_at(bytes, i + 1),
-        h2: fields::double_at(bytes, i + 2),
-        h3: fields::double_at(bytes, i + 3),
-        h4: fields::double_at(bytes, i + 4),
-        h5: fields::double_at(bytes, i + 5),
-        h6: fields::double_at(bytes, i + 6),
-        h7: fields::double_at(bytes, i + 7),
-        h8: fields::double_at(bytes, i + 8),
-    }
+    array::from_fn(|k| fields::double_at(bytes, k))
 }
 
-// Whether the nine numbers from the double at place `first` on are finite, if they are marked, or
-// zero bytes, if not.
-fn numbers_formed(bytes: &[u8], mark: bool, first: usize) -> bool
-    requires first_bound { first ≤ 10 }
-    requires first_in_bounds { 8 * first + 72 ≤ length bytes.now }
-    ensures { result ≡ numbers_formed mark (take 9 (drop first (longs_of bytes.now))) }
+// Row by row.
+#[tactic(auto, unfolding(crate::specs::Trial::model_of))]
+fn model_of(numbers: [f64; 9]) -> Model
+    ensures { result ≡ model_of numbers }
 {
-    if mark {
-        sheet::model_finite(model_at(bytes, first))
-    } else {
-        let a = 8 * first;
-        fields::zero_bytes(bytes, a, a + 72)
+    let [h0, h1, h2, h3, h4, h5, h6, h7, h8] = numbers;
+    Model {
+        h0,
+        h1,
+        h2,
+        h3,
+        h4,
+        h5,
+        h6,
+        h7,
+        h8,
     }
 }
 
 // Whether each of a trial's marks is 0 or 1, and there is no refit without a fit.
+#[tactic(auto, unfolding(crate::specs::Trial::marks_formed))]
 pub fn marks_formed(fit: u8, refit: u8) -> bool
     ensures { result ≡ marks_formed fit refit }
 {
-    if 1 < fit {
-        return false;
-    }
-    if 1 < refit {
-        return false;
-    }
-    if fit < refit {
-        return false;
-    }
-    true
+    fit <= 1 && refit <= fit
 }
 
-// Whether the bytes are a trial's record.
-fn trial_formed(bytes: &[u8]) -> bool
-    ensures { result ≡ trial_formed bytes.now }
+fn zero_bits(numbers: &[f64]) -> bool
+    ensures { result ≡ every (λ x. eqb (to_bits binary64 x) 0) numbers.now }
 {
-    if bytes.len() != 152 {
-        return false;
+    numbers.iter().all(|x| fields::bits_of(*x) == 0)
+}
+
+// Whether numbers may stand in a record: finite where they are marked, else zero bits.
+#[tactic(auto, unfolding(crate::specs::Trial::doubles_formed))]
+fn numbers_formed(mark: bool, numbers: &[f64]) -> bool
+    ensures { result ≡ doubles_formed mark numbers.now }
+{
+    if mark {
+        numbers::ensure_finite(numbers)
+    } else {
+        zero_bits(numbers)
     }
-    let fit = fields::byte_at(bytes, 0);
-    let refit = fields::byte_at(bytes, 1);
-    if !marks_formed(fit, refit) {
-        return false;
-    }
-    if !fields::zero_bytes(bytes, 2, 8) {
-        return false;
-    }
-    if !numbers_formed(bytes, fit == 1, 1) {
-        return false;
-    }
-    numbers_formed(bytes, refit == 1, 10)
+}
+
+// Whether two marks, the numbers of a fit and those of a refit make a trial.
+#[tactic(auto, unfolding(crate::specs::Trial::parts_formed))]
+pub fn parts_formed(fit_mark: u8, refit_mark: u8, fit: &[f64], refit: &[f64]) -> bool
+    ensures { result ≡ parts_formed fit_mark refit_mark fit.now refit.now }
+{
+    marks_formed(fit_mark, refit_mark)
+        && numbers_formed(fit_mark == 1, fit)
+        && numbers_formed(refit_mark == 1, refit)
 }
 
 // The trial of a 152-byte record; refused with 1 where it is none.
+#[tactic(auto, using(crate::proofs::Formed::trial_read, crate::proofs::Formed::other_length), unfolding(fields::specs::Fields::byte_at))]
 pub fn read_trial(bytes: &[u8]) -> Result<Recorded, Refusal>
     ensures { told view_recorded result ≡ trial_answer bytes.now }
 {
-    if !trial_formed(bytes) {
+    if bytes.len() != 152 || !fields::zero_bytes(bytes, 2, 8) {
         return Err(Refusal::Record);
     }
-    if fields::byte_at(bytes, 1) == 1 {
-        return Ok(Recorded::Refit(Refitted {
-            fit: model_at(bytes, 1),
-            refit: model_at(bytes, 10),
-        }));
+    let (fit_mark, refit_mark) = (bytes[0], bytes[1]);
+    let fit = nine_in(&bytes[8..80]);
+    let refit = nine_in(&bytes[80..152]);
+    if !parts_formed(fit_mark, refit_mark, &fit, &refit) {
+        return Err(Refusal::Record);
     }
-    if fields::byte_at(bytes, 0) == 1 {
-        return Ok(Recorded::Fit(model_at(bytes, 1)));
-    }
-    Ok(Recorded::Empty)
+    Ok(match (fit_mark, refit_mark) {
+        (_, 1) => Recorded::Refit(Refitted {
+            fit: model_of(fit),
+            refit: model_of(refit),
+        }),
+        (1, _) => Recorded::Fit(model_of(fit)),
+        _ => Recorded::Empty,
+    })
 }
