@@ -1,6 +1,6 @@
 -- The squares of a list of marks: one for each mark, and the distances are their roots; and the walk that stores them and counts the marks that are beyond.
 -- Assumes nothing.
-use mathlib.Core.Path.{◌≡◌, refl, sym, ◌∙◌}
+use mathlib.Core.Path.{◌≡◌, refl, sym, ap, ◌∙◌}
 use mathlib.Core.Bool.{Bool, true, false, cond, ◌&&◌}
 use mathlib.Core.List.{List, [], ◌∷◌, map}
 use Prim.Native.Nat.{ℕ, ◌+◌, ◌≤◌, ◌<◌}
@@ -66,13 +66,13 @@ module _ (counting : Bool) (ratio : Float) (l : List Float) (h : Model) (entry :
         go false = refl
 
     module _ (room : n ≤ length entry) where
-      pub measured_more : {i found r : ℕ} {q : Float} {s : List Float} {b : Bool} → i < n → q ≡ squared_of ratio h (mark_at l i) → b ≡ far (mark_at l i) → r ≡ from_bool b → Measured i found s
+      pub measured_more : {i found r : ℕ} {q : Float} {s : List Float} {b : Bool} → i < n → q ≡ squared_of ratio h (mark_at l i) → b ≡ beyond_under h (mark_at l i) → r ≡ from_bool (counting && b) → Measured i found s
           → Measured (i + 1) (found + r) (set s i q)
       unfolding mark_at
       measured_more {i} {b = b} inside square answer one k =
           record {
             stored = stored_more _ _ many room (squared_of ratio h no_mark) inside (square ∙ square-at ratio l h i) k.stored;
-            counted = counted_next far (marks_of l) no_mark (rw (← count) inside) answer (one ∙ (counts b).0, rw one (counts b).1) k.counted;
+            counted = counted_next far (marks_of l) no_mark (rw (← count) inside) (ap (λ b. counting && b) answer) (one ∙ (counts (counting && b)).0, rw one (counts (counting && b)).1) k.counted;
           }
         where
           counts : (b : Bool) → (from_bool b ≡ cond b 1 0) × (from_bool b ≤ 1)

@@ -46,7 +46,7 @@ pub fn squared_residuals(
     for i in 0..n {
         let square = squared_mark(h, ratio, sheet::mark_at(marks, i));
         squares[i] = square.unwrap_or(f64::INFINITY);
-        beyond += usize::from(counting && square.is_none());
+        beyond += usize::from(counting & square.is_none());
     }
     beyond
 }
