@@ -1,5 +1,6 @@
 pub mod Ways
-pub mod View
 pub mod Left
-pub mod Beyond
+pub mod Measured
+pub mod View
 pub mod Signs
+pub mod Beyond

@@ -1,43 +1,65 @@
--- The views of a verdict and of a finding can be taken back, so they tell any two apart, and the contracts fix the answer. Assumes nothing.
-use mathlib.Core.Path.{◌≡◌, refl}
+-- The views of an answer can be taken back, so they tell any two answers apart, and the contracts fix the answer. Assumes nothing.
+use mathlib.Core.Path.{◌≡◌, refl, sym, ap₂, ◌∙◌}
+use Prim.Native.Nat.{ℕ}
 use lib.Ieee.{Float}
-use Rattle.rule.proofs.Views.{told_apart}
+use Rattle.std.specs.Prelude.{Result, Ok, Err}
+use Rattle.rule.specs.declared.Refusal.{Refusal}
+use Rattle.rule.specs.Answer.{Answer, refused, gives, told}
+use Rattle.rule.proofs.Views.{told_one}
 use Rattle.sheet.specs.declared.model.Model.{Model}
 use Rattle.book.specs.Score as Score
-use Rattle.judge.specs.Judging.{standing_of, view_finding, view_verdict}
-use Rattle.judge.specs.declared.Finding.{Finding}
-use Rattle.judge.specs.declared.Finding.TheVariants as Findings
+use Rattle.judge.specs.Judging.{judged_as, answer_as, beyond_in, standing_of, supported, view_finding, view_verdict}
+use Rattle.judge.specs.declared.Judgement.{Judgement}
+use Rattle.judge.specs.declared.Standing.{Standing}
+use Rattle.judge.specs.declared.Support.{Support}
 use Rattle.judge.specs.declared.Verdict.{Verdict}
-use Rattle.judge.specs.declared.Verdict.TheVariants.{Refused, Empty, Few, Scored}
+use Rattle.judge.specs.declared.Verdict.TheVariants.{Empty, Few, Scored}
 
-verdict_of : Score.Judged Model → Verdict
-verdict_of (Score.turned_down k) = Refused k
-verdict_of Score.empty = Empty
-verdict_of (Score.few count) = Few count
-verdict_of (Score.scored s) = Scored (record { model = s.model; count = s.count; rms = s.rms; stop = s.stop })
+module _ {S : Type 0} (view : S → Score.Standing Model) (back : Score.Standing Model → S) (undone : (s : S) → back (view s) ≡ s) where
+  -- both views of an answer that is given, and what they are of
+  both : Judgement S → Score.Judgement Model
+  both j = record { worth = judged_as view j.verdict; beyond = j.beyond }
 
-verdict_back : (v : Verdict) → verdict_of (view_verdict v) ≡ v
-unfolding verdict_of view_verdict standing_of
-verdict_back (Refused k) = refl
-verdict_back Empty = refl
-verdict_back (Few count) = refl
-verdict_back (Scored s) = refl
+  verdict_of : Score.Judged Model → Verdict S
+  verdict_of (Score.turned_down k) = Empty
+  verdict_of Score.empty = Empty
+  verdict_of (Score.few count) = Few count
+  verdict_of (Score.scored s) = Scored (back s)
 
-pub verdict_one : (x y : Verdict) → view_verdict x ≡ view_verdict y → x ≡ y
-verdict_one = told_apart view_verdict verdict_of verdict_back
+  judgement_of : Score.Judgement Model → Judgement S
+  judgement_of j = record { verdict = verdict_of j.worth; beyond = j.beyond }
 
-finding_of : Score.Judged Model → Finding
-finding_of (Score.turned_down k) = Findings.Refused k
-finding_of Score.empty = Findings.Empty
-finding_of (Score.few count) = Findings.Few count
-finding_of (Score.scored s) = Findings.Scored (record { model = s.model; count = s.count; stop = s.stop })
+  judgement_back : (j : Judgement S) → judgement_of (both j) ≡ j
+  unfolding judgement_of both verdict_of
+  judgement_back j = ap₂ (λ v b. record { verdict = v; beyond = b }) (go j.verdict) refl
+    where
+      go : (v : Verdict S) → verdict_of (judged_as view v) ≡ v
+      go Empty = refl
+      go (Few count) = refl
+      go (Scored s) = λ i. Scored (undone s i)
 
-finding_back : (rms : Model → Float) (v : Finding) → finding_of (view_finding rms v) ≡ v
-unfolding finding_of view_finding
-finding_back rms (Findings.Refused k) = refl
-finding_back rms Findings.Empty = refl
-finding_back rms (Findings.Few count) = refl
-finding_back rms (Findings.Scored s) = refl
+  told_by : Score.Judged Model → ℕ → Answer (Score.Judgement Model)
+  told_by (Score.turned_down k) beyond = refused k
+  told_by Score.empty beyond = gives (record { worth = Score.empty; beyond = beyond })
+  told_by (Score.few count) beyond = gives (record { worth = Score.few count; beyond = beyond })
+  told_by (Score.scored s) beyond = gives (record { worth = Score.scored s; beyond = beyond })
 
-pub finding_one : (rms : Model → Float) (x y : Finding) → view_finding rms x ≡ view_finding rms y → x ≡ y
-finding_one rms = told_apart (view_finding rms) finding_of (finding_back rms)
+  told_is : (r : Result (Judgement S) Refusal) → told both r ≡ told_by (answer_as view r) (beyond_in r)
+  unfolding both told_by
+  told_is (Err e) = refl
+  told_is (Ok j) = go j.verdict
+    where
+      go : (v : Verdict S) → ◌≡◌ {A = Answer (Score.Judgement Model)} (gives (record { worth = judged_as view v; beyond = j.beyond })) (told_by (judged_as view v) j.beyond)
+      go Empty = refl
+      go (Few count) = refl
+      go (Scored s) = refl
+
+  pub answer_one : (x y : Result (Judgement S) Refusal) → answer_as view x ≡ answer_as view y → beyond_in x ≡ beyond_in y → x ≡ y
+  answer_one x y h b = told_one both judgement_of judgement_back x y (told_is x ∙ ap₂ told_by h b ∙ sym (told_is y))
+
+pub verdict_one : (x y : Result (Judgement Standing) Refusal) → view_verdict x ≡ view_verdict y → beyond_in x ≡ beyond_in y → x ≡ y
+unfolding standing_of
+verdict_one = answer_one standing_of (λ s. record { model = s.model; count = s.count; rms = s.rms; stop = s.stop }) (λ s. refl)
+
+pub finding_one : (rms : Model → Float) (x y : Result (Judgement Support) Refusal) → view_finding rms x ≡ view_finding rms y → beyond_in x ≡ beyond_in y → x ≡ y
+finding_one rms = answer_one (supported rms) (λ s. record { model = s.model; count = s.count; stop = s.stop }) (λ s. refl)

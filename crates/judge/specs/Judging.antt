@@ -1,6 +1,7 @@
 -- Document 01, 'Trials': a call of a sheet's run (a record, marks, stops), its tests but for 10, and what it comes to by itself, before the book is looked at.
-use Rattle.std.specs.Prelude.{not, cond, List, [], ◌∷◌, ◌++◌, map, ℕ, suc, eqb, ltb, length, Float}
-use Rattle.rule.specs.Refusal.{SHAPE, STOPS}
+use Rattle.std.specs.Prelude.{not, cond, List, [], ◌∷◌, ◌++◌, map, ℕ, suc, eqb, ltb, length, Float, Option, Some, None, Result, Ok, Err}
+use Rattle.rule.specs.Refusal.{SHAPE, STOPS, number_of}
+use Rattle.rule.specs.declared.Refusal.{Refusal}
 use Rattle.rule.specs.Lists.{filled}
 use Rattle.rule.specs.Order.{Test, first_failed, if_passed}
 use Rattle.root.specs.Root.{root_of}
@@ -11,12 +12,12 @@ use Rattle.book.specs.Score.{Options, Judged, turned_down, Judgement, beyond_fit
 use Rattle.records.specs.Trial.{trial_record, trial_of}
 use Rattle.records.specs.declared.options.RansacOptions.{RansacOptions}
 use Rattle.measure.specs.Distances.{distances_of, beyond_of, squares_of}
-use Rattle.judge.specs.declared.Finding.{Finding}
-use Rattle.judge.specs.declared.Finding.TheVariants as Findings
+use Rattle.judge.specs.declared.Call.{Call as CodeCall}
+use Rattle.judge.specs.declared.Judgement.{Judgement as CodeJudgement}
 use Rattle.judge.specs.declared.Standing.{Standing}
 use Rattle.judge.specs.declared.Support.{Support}
 use Rattle.judge.specs.declared.Verdict.{Verdict}
-use Rattle.judge.specs.declared.Verdict.TheVariants.{Refused, Empty, Few, Scored}
+use Rattle.judge.specs.declared.Verdict.TheVariants.{Empty, Few, Scored}
 
 -- what the picking rule reads of the options
 unfoldable pub rule_of : RansacOptions → Options
@@ -26,6 +27,10 @@ pub record Call : Type 0 where
   pub bytes : List ℕ
   pub marks : List Float
   pub stops : List ℕ
+
+-- the code's
+abbrev pub call_of : CodeCall → Call
+call_of c = record { bytes = c.bytes.now; marks = c.marks.now; stops = c.stops.now }
 
 -- ---- the tests
 
@@ -73,15 +78,34 @@ judgement_of o n c = record { worth = judge_of o n c; beyond = beyond_by (call_t
 abbrev pub judgement_tested : RansacOptions → ℕ → Call → Judgement Model
 judgement_tested o n c = record { worth = judge_tested o n c; beyond = beyond_by (tested_tests n c) c }
 
+-- ---- what the code answers
+
+-- a fit and, where there is one, its refit
+abbrev pub refitted_by : Model → Option Model → Trial Model
+refitted_by fit None = fitted fit
+refitted_by fit (Some refit) = refitted fit refit
+
+-- what a verdict stands for, by what a scored one has
+abbrev pub judged_as : {S : Type 0} → (S → Score.Standing Model) → Verdict S → Judged Model
+judged_as view Empty = Judged.empty
+judged_as view (Few count) = Judged.few count
+judged_as view (Scored s) = Judged.scored (view s)
+
+-- and an answer
+abbrev pub answer_as : {S : Type 0} → (S → Score.Standing Model) → Result (CodeJudgement S) Refusal → Judged Model
+answer_as view (Ok j) = judged_as view j.verdict
+answer_as view (Err e) = turned_down (number_of e)
+
+-- how many marks it says are beyond: none where the call is refused
+abbrev pub beyond_in : {S : Type 0} → Result (CodeJudgement S) Refusal → ℕ
+beyond_in (Ok j) = j.beyond
+beyond_in (Err e) = 0
+
 unfoldable pub standing_of : Standing → Score.Standing Model
 standing_of s = record { model = s.model; count = s.count; rms = s.rms; stop = s.stop }
 
--- what each case of the judge's verdict stands for
-unfoldable pub view_verdict : Verdict → Judged Model
-view_verdict (Refused k) = turned_down k
-view_verdict Empty = Judged.empty
-view_verdict (Few count) = Judged.few count
-view_verdict (Scored s) = Judged.scored (standing_of s)
+abbrev pub view_verdict : Result (CodeJudgement Standing) Refusal → Judged Model
+view_verdict r = answer_as standing_of r
 
 -- ---- the judging without the root mean square
 
@@ -89,12 +113,12 @@ view_verdict (Scored s) = Judged.scored (standing_of s)
 unfoldable pub rms_under : RansacOptions → List Float → Model → Float
 rms_under o l m = rms_in o.thresh (distances_of o.ratio l m)
 
--- A finding leaves the root mean square out: it is that of the model that stands.
-unfoldable pub view_finding : (Model → Float) → Finding → Judged Model
-view_finding rms (Findings.Refused k) = turned_down k
-view_finding rms Findings.Empty = Judged.empty
-view_finding rms (Findings.Few count) = Judged.few count
-view_finding rms (Findings.Scored s) = Judged.scored (record { model = s.model; count = s.count; rms = rms s.model; stop = s.stop })
+-- A support leaves the root mean square out: it is that of the model that stands.
+abbrev pub supported : (Model → Float) → Support → Score.Standing Model
+supported rms s = record { model = s.model; count = s.count; rms = rms s.model; stop = s.stop }
+
+abbrev pub view_finding : (Model → Float) → Result (CodeJudgement Support) Refusal → Judged Model
+view_finding rms r = answer_as (supported rms) r
 
 -- Where the distances' squares are known it can be worked out.
 unfoldable pub support_with : Float → (squares : List Float) → Support → Score.Standing Model

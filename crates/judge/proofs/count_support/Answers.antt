@@ -1,24 +1,24 @@
 -- `judge::count_support` meets its contract. Assumes nothing.
-use Rattle.judge.proofs.Ways.{call-refused, case_refused, case_empty, case_fit, case_refit, passed_short}
+use Rattle.std.proofs.lemmas.Result.{err_from_is_err_and}
+use Rattle.judge.proofs.Ways.{passed_short, call_refused, record_refused, record_judged}
 use Rattle.judge.proofs.count_support.Goals as goal
 
-pub returns-then-refusal-ne0 : goal.returns-then-refusal-ne0
-returns-then-refusal-ne0 c = let z = call-refused _ _ _ _ c.check_call-refusal.ensures _ c.if-refusal-ne0.true in record { finding_value = z.0; beyond_value = z.1.0; squares_after = z.1.1 }
+pub returns-in_err-check : goal.returns-in_err-check
+returns-in_err-check c =
+    let p = err_from_is_err_and c.from_residual.result c.from_residual.ensures.1 in
+    let z = call_refused _ _ _ _ _ _ c.in_err-check.ensures in
+    rw (p.1, p.2) (record { finding_value = z.0; beyond_value = z.1; squares_after = z.2 })
 
-pub count_fit-requires : goal.count_fit-requires
-count_fit-requires c = passed_short _ _ _ c.check_call-refusal.ensures c.if-refusal-ne0.false
+pub returns-in_err-trial : goal.returns-in_err-trial
+returns-in_err-trial c =
+    let p = err_from_is_err_and c.from_residual-in_err-trial.result c.from_residual-in_err-trial.ensures.1 in
+    let z = record_refused _ _ _ _ _ c.in_ok-check.ensures _ c.in_err-trial.ensures in
+    rw (p.1, p.2) (record { finding_value = z.0; beyond_value = z.1; squares_after = z.2 })
 
-pub count_refit-requires : goal.count_refit-requires
-count_refit-requires c = passed_short _ _ _ c.check_call-refusal.ensures c.if-refusal-ne0.false
+pub invariant_of-run : goal.invariant_of-run
+invariant_of-run c = record { few_enough = passed_short _ _ _ c.in_ok-check.ensures }
 
-pub returns-in-Refused : goal.returns-in-Refused
-returns-in-Refused c = let z = case_refused _ _ _ _ c.check_call-refusal.ensures c.if-refusal-ne0.false _ c.read_trial.ensures c.in-Refused.is in record { finding_value = z.0; beyond_value = z.1.0; squares_after = z.1.1 }
-
-pub returns-in-Empty : goal.returns-in-Empty
-returns-in-Empty c = let z = case_empty _ _ _ _ c.check_call-refusal.ensures c.if-refusal-ne0.false _ c.read_trial.ensures c.in-Empty.is in record { finding_value = z.0; beyond_value = z.1.0; squares_after = z.1.1 }
-
-pub returns-in-Fit : goal.returns-in-Fit
-returns-in-Fit c = let z = case_fit _ _ _ _ c.check_call-refusal.ensures c.if-refusal-ne0.false _ c.read_trial.ensures c.in-Fit.is _ _ _ (c.count_fit.ensures.finding_value, (c.count_fit.ensures.beyond_value, c.count_fit.ensures.squares_after)) in record { finding_value = z.0; beyond_value = z.1.0; squares_after = z.1.1 }
-
-pub returns-in-Refit : goal.returns-in-Refit
-returns-in-Refit c = let z = case_refit _ _ _ _ c.check_call-refusal.ensures c.if-refusal-ne0.false _ c.read_trial.ensures c.in-Refit.is _ _ _ (c.count_refit.ensures.finding_value, (c.count_refit.ensures.beyond_value, c.count_refit.ensures.squares_after)) in record { finding_value = z.0; beyond_value = z.1.0; squares_after = z.1.1 }
+pub returns : goal.returns
+returns c =
+    let z = record_judged _ _ _ _ _ c.in_ok-check.ensures c.in_ok-trial.ensures c.judged.ensures.verdict_value c.judged.ensures.beyond_value c.judged.ensures.squares_after in
+    record { finding_value = z.0; beyond_value = z.1; squares_after = z.2 }

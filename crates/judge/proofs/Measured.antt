@@ -1,0 +1,58 @@
+-- One measuring of marks into a lent list, and what is read off it. Assumes nothing.
+use mathlib.Core.Path.{◌≡◌, sym, ap, ◌∙◌}
+use mathlib.Core.Bool.{Bool, true, false}
+use mathlib.Core.List.{List, map}
+use Prim.Native.Nat.{ℕ, ◌≤◌}
+use native.Mathlib.Omega.{arith}
+use borrow.Author.Tests.{le-ltb}
+use lib.ListN.{length, take, length-map}
+use lib.Ieee.{Float}
+use Rattle.std.proofs.lemmas.List.{length-take}
+use Rattle.rule.specs.Lists.{filled}
+use Rattle.rule.proofs.Lists.{count_most, filled-length, filled_front, filled_again}
+use Rattle.root.specs.Root.{root_of}
+use Rattle.numbers.specs.Measure.{if_counted}
+use Rattle.sheet.specs.Marks.{marks_of}
+use Rattle.sheet.specs.Distance.{beyond_under}
+use Rattle.sheet.specs.declared.model.Model.{Model}
+use Rattle.sheet.proofs.Places.{count}
+use Rattle.book.specs.Score.{close, count_in}
+use Rattle.measure.specs.Distances.{distances_of, beyond_of, squares_of, beyond_found}
+use Rattle.measure.proofs.Squares.{squares_count, distances-count, roots_of_squares}
+
+-- the roots of what is stored are the distances
+pub roots_stored : (ratio : Float) (l : List Float) (h : Model) (entry : List Float) → length (marks_of l) ≤ length entry
+    → map root_of (take (length (marks_of l)) (filled (squares_of ratio l h) entry)) ≡ distances_of ratio l h
+roots_stored ratio l h entry room =
+    let long = squares_count ratio l h in
+    rw (← long, filled_front (squares_of ratio l h) entry (rw long room)) (roots_of_squares ratio l h)
+
+-- how many are found within or beyond, and that these are few
+pub within_small : (thresh : Float) (n : ℕ) (s : List Float) → count_in thresh (map root_of (take n s)) ≤ n
+unfolding count_in
+within_small thresh n s =
+    let m = count_most (close thresh) (map root_of (take n s)) in
+    let k = length-map (take n s) root_of in
+    omega (arith, m, k, length-take n s)
+
+pub found_all : (counting : Bool) (l : List Float) (h : Model) (entry : List Float) → length (marks_of l) ≤ length entry → beyond_found counting l h entry ≡ if_counted counting (beyond_of l h)
+unfolding beyond_found
+found_all counting l h entry room = rw (le-ltb (length entry) (length (marks_of l)) room)
+
+pub found_small : (counting : Bool) (l : List Float) (h : Model) (entry : List Float) → length (marks_of l) ≤ length entry → beyond_found counting l h entry ≤ length (marks_of l)
+unfolding beyond_of if_counted
+found_small counting l h entry room = rw (found_all counting l h entry room) (go counting)
+  where
+    go : (b : Bool) → if_counted b (beyond_of l h) ≤ length (marks_of l)
+    go true = count_most (beyond_under h) (marks_of l)
+    go false = omega arith
+
+-- of one measuring after another the last is left
+pub measured_twice : (ratio : Float) (l entry : List Float) (a b : Model) → filled (squares_of ratio l b) (filled (squares_of ratio l a) entry) ≡ filled (squares_of ratio l b) entry
+measured_twice ratio l entry a b = filled_again (squares_of ratio l a) (squares_of ratio l b) entry (squares_count ratio l a ∙ sym (squares_count ratio l b))
+
+-- ---- what the walks of the code rest on
+
+pub ruleset counts = (count, roots_stored, within_small, found_all, found_small)
+
+pub ruleset writes = (roots_stored, squares_count, distances-count)

@@ -1,0 +1,139 @@
+// A fit and its refit over the marks of a run.
+ghost use Rattle.std.specs.Prelude.{◌≡◌, ◌≤◌, Option, length};
+ghost use Rattle.rule.specs.Lists.{filled};
+ghost use Rattle.numbers.specs.Measure.{if_counted};
+ghost use Rattle.book.specs.Score.{count_under, stop_at, judge_trial, beyond_fit};
+ghost use Rattle.records.specs.Trial.{view_recorded};
+ghost use Rattle.measure.specs.Distances.{distances_of, beyond_of, squares_of};
+ghost use Rattle.judge.specs.Judging.{rule_of, rms_under, supported, judged_as, refitted_by, squares_after};
+
+use crate::{Judgement, Support, Verdict};
+use records::{RansacOptions, Recorded};
+use sheet::Model;
+
+// The options, and marks and stop entries that a call's tests have passed: few enough marks for a list
+// of squares.
+#[derive(Clone, Copy)]
+pub(crate) struct Run<'a> {
+    pub options: RansacOptions,
+    pub marks: &'a [f64],
+    pub stops: &'a [u32],
+    ghost few_enough: { length marks.now ≤ 8000 },
+}
+
+// How many marks are within the threshold under a model, and how many are beyond.
+#[derive(Clone, Copy)]
+struct Counted {
+    within: u32,
+    beyond: u32,
+}
+
+impl<'a> Run<'a> {
+    // max_iters at count 0, else the entry of the count.
+    #[tactic(auto, unfolding(book::specs::Score::stop_at, crate::specs::Judging::rule_of))]
+    fn stop_at(self, count: u32) -> u32
+        ensures { result ≡ stop_at (rule_of self.entry.options) (distances_of self.entry.options.ratio self.entry.marks.now) self.entry.stops.now count }
+    {
+        if count == 0 {
+            return self.options.max_iters;
+        }
+        self.stops.get(count as usize).copied().unwrap_or(0)
+    }
+
+    // A model and its count.
+    fn support(self, model: Model, count: u32) -> Support
+        ensures { result ≡ record { model = model; count = count; stop = stop_at (rule_of self.entry.options) (distances_of self.entry.options.ratio self.entry.marks.now) self.entry.stops.now count } }
+    {
+        Support {
+            model,
+            count,
+            stop: self.stop_at(count),
+        }
+    }
+
+    // Measures a model, and counts the marks that are within the threshold under it and, if they are to
+    // be counted, those beyond.
+    #[tactic(auto, using(crate::proofs::Measured::counts), unfolding(book::specs::Score::count_under, crate::specs::Judging::rule_of))]
+    fn count_under(self, h: Model, squares: &mut [f64; 2000], counting: bool) -> Counted
+        ensures within_value { result.within ≡ count_under (rule_of self.entry.options) (distances_of self.entry.options.ratio self.entry.marks.now) self.entry.stops.now h }
+        ensures beyond_value { result.beyond ≡ if_counted counting (beyond_of self.entry.marks.now h) }
+        ensures squares_after { squares.new ≡ filled (squares_of self.entry.options.ratio self.entry.marks.now h) squares.old }
+    {
+        let o = self.options;
+        let beyond = measure::squared_residuals(h, o.ratio, self.marks, squares, counting);
+        let n = sheet::mark_count(self.marks);
+        let within = score::count_inliers(o.thresh, &squares[..n]);
+        Counted {
+            within: within as u32,
+            beyond: beyond as u32,
+        }
+    }
+
+    // Judges a trial but for the root mean square.
+    #[tactic(auto, unfolding(book::specs::Score::judge_trial, book::specs::Score::beyond_fit, numbers::specs::Measure::if_counted, crate::specs::Judging::squares_after))]
+    pub fn judged(
+        self,
+        trial: Recorded,
+        squares: &mut [f64; 2000],
+        counting: bool,
+    ) -> Judgement<Support>
+        ensures verdict_value { judged_as (supported (rms_under self.entry.options self.entry.marks.now)) result.verdict ≡ judge_trial (rule_of self.entry.options) (distances_of self.entry.options.ratio self.entry.marks.now) self.entry.stops.now (view_recorded trial) }
+        ensures beyond_value { result.beyond ≡ if_counted counting (beyond_fit (beyond_of self.entry.marks.now) (view_recorded trial)) }
+        ensures squares_after { squares.new ≡ squares_after self.entry.options self.entry.marks.now self.entry.stops.now (view_recorded trial) squares.old }
+    {
+        match trial {
+            Recorded::Empty => Judgement {
+                verdict: Verdict::Empty,
+                beyond: 0,
+            },
+            Recorded::Fit(fit) => self.count_fit(fit, None, squares, counting),
+            Recorded::Refit(pair) => self.count_fit(pair.fit, Some(pair.refit), squares, counting),
+        }
+    }
+
+    // Judges a fit and, where there is one, its refit. The refit stands if options ask for it and its
+    // own count reaches min_inliers, even if it is lower than the fit's. Where it doesn't, the fit is
+    // measured again: the list has the squares of the model that stands. The marks beyond are those under
+    // the fit, whichever stands.
+    #[tactic(auto, using(crate::proofs::Measured::measured_twice), unfolding(book::specs::Score::judge_trial, book::specs::Score::judged_by, book::specs::Score::stands_of, book::specs::Score::standing, book::specs::Score::count_under, book::specs::Score::beyond_fit, crate::specs::Judging::rule_of, crate::specs::Judging::rms_under, crate::specs::Judging::squares_after))]
+    fn count_fit(
+        self,
+        fit: Model,
+        refit: Option<Model>,
+        squares: &mut [f64; 2000],
+        counting: bool,
+    ) -> Judgement<Support>
+        ensures verdict_value { judged_as (supported (rms_under self.entry.options self.entry.marks.now)) result.verdict ≡ judge_trial (rule_of self.entry.options) (distances_of self.entry.options.ratio self.entry.marks.now) self.entry.stops.now (refitted_by fit refit) }
+        ensures beyond_value { result.beyond ≡ if_counted counting (beyond_fit (beyond_of self.entry.marks.now) (refitted_by fit refit)) }
+        ensures squares_after { squares.new ≡ squares_after self.entry.options self.entry.marks.now self.entry.stops.now (refitted_by fit refit) squares.old }
+    {
+        let least = self.options.min_inliers;
+        let first = self.count_under(fit, squares, counting);
+        let beyond = first.beyond;
+        if first.within < least {
+            return Judgement {
+                verdict: Verdict::Few(first.within),
+                beyond,
+            };
+        }
+        let fit_stands = Judgement {
+            verdict: Verdict::Scored(self.support(fit, first.within)),
+            beyond,
+        };
+        let Some(refit) = refit else {
+            return fit_stands;
+        };
+        if !self.options.refit {
+            return fit_stands;
+        }
+        let again = self.count_under(refit, squares, false);
+        if again.within < least {
+            measure::squared_residuals(fit, self.options.ratio, self.marks, squares, false);
+            return fit_stands;
+        }
+        Judgement {
+            verdict: Verdict::Scored(self.support(refit, again.within)),
+            beyond,
+        }
+    }
+}
