@@ -11,52 +11,47 @@ ghost use Rattle.fields.specs.Fields.{byte_at, word_at, long_at, double_at, zero
 ghost use Rattle.fields.specs.Wide.{bytes_wide, double_wide};
 
 // The byte at place `i`; 0 where there is none.
+#[tactic(auto, unfolding(crate::specs::Fields::byte_at))]
 pub fn byte_at(bytes: &[u8], i: usize) -> u8
     ensures { result ≡ byte_at bytes.now i }
 {
-    if i < bytes.len() { bytes[i] } else { 0 }
-}
-
-fn wide(b: u8) -> u32
-    ensures { (result ≡ b) × (result < 256) }
-{
-    b as u32
+    bytes.get(i).copied().unwrap_or(0)
 }
 
 // The four-byte field at place `i`; 0 where there is none.
+#[tactic(auto, using(crate::proofs::Reading::word_read, crate::proofs::Reading::no_word))]
 pub fn word_at(bytes: &[u8], i: usize) -> u32
     ensures { result ≡ word_at bytes.now i }
 {
-    if i < bytes.len() / 4 {
-        let p = 4 * i;
-        wide(bytes[p])
-            + wide(bytes[p + 1]) * 0x100
-            + wide(bytes[p + 2]) * 0x1_0000
-            + wide(bytes[p + 3]) * 0x100_0000
+    let (parts, _) = bytes.as_chunks::<4>();
+    if i < parts.len() {
+        u32::from_le_bytes(parts[i])
     } else {
         0
     }
 }
 
 // The eight-byte field at place `i`; 0 where there is none.
+#[tactic(auto, using(crate::proofs::Reading::long_read, crate::proofs::Reading::no_long))]
 pub fn long_at(bytes: &[u8], i: usize) -> u64
     ensures { result ≡ long_at bytes.now i }
 {
-    if i < bytes.len() / 8 {
-        let low = word_at(bytes, 2 * i);
-        let high = word_at(bytes, 2 * i + 1);
-        low as u64 + high as u64 * 0x1_0000_0000
+    let (parts, _) = bytes.as_chunks::<8>();
+    if i < parts.len() {
+        u64::from_le_bytes(parts[i])
     } else {
         0
     }
 }
 
 // The double of a bit pattern; all NaNs are one.
+#[tactic(auto, using(rule::proofs::Nan::nan_bits_lem, rule::proofs::Nan::no_nan_bits))]
 pub fn double_of(bits: u64) -> f64
     ensures { result ≡ of_bits binary64 bits }
 {
+    // std's `from_bits` takes no NaN.
     if bits % 0x8000_0000_0000_0000 > 0x7ff0_0000_0000_0000 {
-        return 0.0 / 0.0;
+        return f64::NAN;
     }
     f64::from_bits(bits)
 }
@@ -65,41 +60,31 @@ pub fn double_of(bits: u64) -> f64
 pub fn bits_of(x: f64) -> u64
     ensures { result ≡ to_bits binary64 x }
 {
-    if x != x {
+    // std's `to_bits` takes no NaN.
+    if x.is_nan() {
         return 0x7ff8_0000_0000_0000;
     }
-    f64::to_bits(x)
+    x.to_bits()
 }
 
 // The double at place `i`, of eight bytes each; that of bits 0 where there is none.
+#[tactic(auto, unfolding(crate::specs::Fields::double_at))]
 pub fn double_at(bytes: &[u8], i: usize) -> f64
     ensures { result ≡ double_at bytes.now i }
 {
     double_of(long_at(bytes, i))
 }
 
-fn least(a: usize, b: usize) -> usize
-    ensures { result ≡ min a b }
-{
-    if a < b { a } else { b }
-}
-
 // Whether every byte from `from` up to, not including, `to` is 0, as far as there are such.
+#[tactic(auto, unfolding(crate::specs::Fields::zero_bytes))]
 pub fn zero_bytes(bytes: &[u8], from: usize, to: usize) -> bool
     ensures { result ≡ zero_bytes from to bytes.now }
 {
-    let end = least(to, bytes.len());
-    let mut i = from;
-    while i < end {
-        if bytes[i] != 0 {
-            return false;
-        }
-        i += 1;
-    }
-    true
+    bytes.iter().take(to).skip(from).all(|b| *b == 0)
 }
 
 // Reads all four-byte fields into `words`, from its front, if it has room for them.
+#[tactic(auto, using(rule::proofs::Lists::stored_no_room, rule::proofs::Lists::stored_all, crate::proofs::Reading::words_count))]
 pub fn read_words(bytes: &[u8], words: &mut [u32])
     ensures { words.new ≡ filled (words_of bytes.now) words.old }
 {
@@ -107,10 +92,8 @@ pub fn read_words(bytes: &[u8], words: &mut [u32])
     if words.len() < n {
         return;
     }
-    let mut i = 0;
-    while i < n {
+    for i in 0..n {
         words[i] = word_at(bytes, i);
-        i += 1;
     }
 }
 

@@ -16,13 +16,8 @@ pub fn read_full<F: Read>(file: &mut F, buffer: &mut [u8]) -> usize
     let mut at = 0;
     while at < buffer.len() {
         match file.read(&mut buffer[at..]) {
-            Ok(n) => {
-                if n == 0 {
-                    return at;
-                }
-                at += n;
-            }
-            Err(_) => return at,
+            Ok(0) | Err(_) => break,
+            Ok(n) => at += n,
         }
     }
     at

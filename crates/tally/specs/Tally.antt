@@ -1,7 +1,21 @@
 -- Scores: how many answers of each kind agree, of how many.
-use Rattle.std.specs.Prelude.{Bool, cond, ℕ, ◌+◌, ltb, eqb}
+use Rattle.std.specs.Prelude.{◌≡◌, Bool, false, cond, List, [], ◌∷◌, ◌++◌, length, ℕ, ◌+◌, ◌<◌, ltb, eqb, slice_index_or, slice_set, Option, Some, None, Result, MatchResult}
+use Rattle.std.specs.Borrow.{Bor}
+use Rattle.std.specs.Fn.{Shared, FnReturns}
+use Rattle.std.specs.Io.KnownBytes.{Consumes}
+use Rattle.fields.specs.Fields.{long_at}
+use Rattle.tally.specs.declared.Kind.{Kind}
+use Rattle.tally.specs.declared.Kind.TheVariants.{First, Second, Third, Fourth}
+use Rattle.tally.specs.declared.UnknownKind.{UnknownKind}
 use Rattle.tally.specs.declared.Score.{Score}
 use Rattle.tally.specs.declared.Scores.{Scores}
+
+-- the kind of a record by its first word
+abbrev pub kind_of : ℕ → Option Kind
+kind_of word = cond (eqb word 1) (Some First) (cond (eqb word 2) (Some Second) (cond (eqb word 3) (Some Third) (cond (eqb word 4) (Some Fourth) None)))
+
+abbrev pub Decodes : ℕ → Result Kind UnknownKind → Type 0
+Decodes word r = MatchResult r (λ kind. kind_of word ≡ Some kind) (λ e. (kind_of word ≡ None) × (e.0 ≡ word))
 
 -- one more, up to a number that no list reaches
 unfoldable pub one_more : ℕ → ℕ
@@ -14,12 +28,32 @@ abbrev pub no_score : Score
 no_score = record { right = 0; all = 0 }
 
 unfoldable pub no_scores : Scores
-no_scores = record { first = no_score; second = no_score; third = no_score; fourth = no_score; other = no_score }
+no_scores = record { kinds = no_score ∷ no_score ∷ no_score ∷ no_score ∷ []; unknown = no_score }
 
-unfoldable pub scores_after : Scores → (kind : ℕ) → Bool → Scores
-scores_after t kind agrees =
-    cond (eqb kind 1) (record { first = score_after t.first agrees; second = t.second; third = t.third; fourth = t.fourth; other = t.other })
-    (cond (eqb kind 2) (record { first = t.first; second = score_after t.second agrees; third = t.third; fourth = t.fourth; other = t.other })
-    (cond (eqb kind 3) (record { first = t.first; second = t.second; third = score_after t.third agrees; fourth = t.fourth; other = t.other })
-    (cond (eqb kind 4) (record { first = t.first; second = t.second; third = t.third; fourth = score_after t.fourth agrees; other = t.other })
-    (record { first = t.first; second = t.second; third = t.third; fourth = t.fourth; other = score_after t.other agrees }))))
+-- the place of a kind's score
+abbrev pub place_of : Kind → ℕ
+place_of First = 0
+place_of Second = 1
+place_of Third = 2
+place_of Fourth = 3
+
+unfoldable pub scores_after : Scores → Option Kind → Bool → Scores
+scores_after t (Some kind) agrees = record { kinds = slice_set t.kinds (place_of kind) (score_after (slice_index_or t.kinds (place_of kind) no_score) agrees); unknown = t.unknown }
+scores_after t None agrees = record { kinds = t.kinds; unknown = score_after t.unknown agrees }
+
+-- ---- a list of records, replayed
+
+-- an answer of f to a record of a kind, by its bytes
+abbrev pub Says : {F : Type 0} → Shared F (Kind × (Bor (List ℕ) × Unit {0})) Bool → F → Kind → List ℕ → Bool → Type 0
+Says g f kind l b = (shown : Bor (List ℕ)) × (shown.now ≡ l) × FnReturns g f (kind, (shown, tt)) b
+
+-- the scores of bytes that are whole records of n bytes each
+module _ (n : ℕ) (Answers : Kind → List ℕ → Bool → Type 0) where
+  pub data Scored : List ℕ → Scores → Type 0 where
+    none : Scored [] no_scores
+    known : {bytes : List ℕ} (l : List ℕ) {t : Scores} {kind : Kind} {b : Bool} → Scored bytes t → length l ≡ n → kind_of (long_at l 0) ≡ Some kind → Answers kind l b → Scored (bytes ++ l) (scores_after t (Some kind) b)
+    unknown : {bytes : List ℕ} (l : List ℕ) {t : Scores} → Scored bytes t → length l ≡ n → kind_of (long_at l 0) ≡ None → Scored (bytes ++ l) (scores_after t None false)
+
+  -- of what a reader gave: the rest is no whole record
+  abbrev pub Replayed : Option (List ℕ) → Option (List ℕ) → Scores → Type 0
+  Replayed old new t = (bytes rest : List ℕ) × Consumes old new (bytes ++ rest) × (length rest < n) × Scored bytes t

@@ -2,12 +2,52 @@
 // original Rust's answers.
 #![tactic(auto)]
 
-ghost use Rattle.std.specs.Prelude.{◌≡◌, eqb};
+ghost use Rattle.std.specs.Prelude.{◌≡◌, ◌<◌, ◌^◌, ◌++◌, List, ℕ, eqb, length, MatchResult, Some, None};
 ghost use Rattle.std.specs.Float.{binary64};
 ghost use Rattle.std.specs.Float.Ieee.{to_bits};
-ghost use Rattle.tally.specs.Tally.{one_more, score_after, no_scores, scores_after};
+ghost use Rattle.std.specs.Io.KnownBytes.{Consumes};
+ghost use Rattle.tally.specs.Tally.{one_more, score_after, no_scores, scores_after, Decodes, Replayed, Says};
 
-use std::io;
+use std::error::Error;
+use std::io::Read;
+use std::{fmt, io};
+
+// The kind of a record, which its first word says: a list has four.
+#[derive(Clone, Copy, Debug, PartialEq, Eq, Hash)]
+pub enum Kind {
+    First,
+    Second,
+    Third,
+    Fourth,
+}
+
+// The first word of a record of no kind.
+#[derive(Clone, Copy, Debug, PartialEq, Eq, Hash)]
+pub struct UnknownKind(pub u64);
+
+impl TryFrom<u64> for Kind {
+    type Error = UnknownKind;
+
+    ghost try_from_gives = { Decodes };
+
+    fn try_from(word: u64) -> Result<Kind, UnknownKind> {
+        match word {
+            1 => Ok(Kind::First),
+            2 => Ok(Kind::Second),
+            3 => Ok(Kind::Third),
+            4 => Ok(Kind::Fourth),
+            _ => Err(UnknownKind(word)),
+        }
+    }
+}
+
+impl fmt::Display for UnknownKind {
+    fn fmt<W: fmt::Write>(&self, f: &mut fmt::Formatter<W>) -> fmt::Result {
+        write!(f, "no kind of record begins with {}", self.0)
+    }
+}
+
+impl Error for UnknownKind {}
 
 // How many answers agree, of how many.
 #[derive(Clone, Copy)]
@@ -16,14 +56,73 @@ pub struct Score {
     pub all: u64,
 }
 
+// One more, up to a number that no list reaches.
+#[tactic(auto, unfolding(crate::specs::Tally::one_more))]
+fn more(n: u64) -> u64
+    ensures { result ≡ one_more n }
+{
+    if n < 1000000 { n + 1 } else { n }
+}
+
+impl Score {
+    // The score with one answer more.
+    #[tactic(auto, unfolding(crate::specs::Tally::score_after))]
+    fn after(self, agrees: bool) -> Score
+        ensures { result ≡ score_after self agrees }
+    {
+        Score {
+            right: if agrees { more(self.right) } else { self.right },
+            all: more(self.all),
+        }
+    }
+}
+
+impl fmt::Display for Score {
+    fn fmt<W: fmt::Write>(&self, f: &mut fmt::Formatter<W>) -> fmt::Result {
+        write!(f, "{} of {}", self.right, self.all)
+    }
+}
+
 // The scores of a list of answers: of its four kinds, and of records that are of none.
 #[derive(Clone, Copy)]
 pub struct Scores {
-    pub first: Score,
-    pub second: Score,
-    pub third: Score,
-    pub fourth: Score,
-    pub other: Score,
+    pub kinds: [Score; 4],
+    pub unknown: Score,
+}
+
+impl Scores {
+    // The scores of an empty list.
+    #[tactic(auto, unfolding(crate::specs::Tally::no_scores))]
+    pub fn none() -> Scores
+        ensures { result ≡ no_scores }
+    {
+        let none = Score { right: 0, all: 0 };
+        Scores {
+            kinds: [none; 4],
+            unknown: none,
+        }
+    }
+
+    // The scores with one answer more, of a kind or of none.
+    #[tactic(auto, unfolding(crate::specs::Tally::scores_after))]
+    pub fn after(self, kind: Option<Kind>, agrees: bool) -> Scores
+        ensures { result ≡ scores_after self kind agrees }
+    {
+        let mut next = self;
+        match kind {
+            Some(k) => next.kinds[k as usize] = next.kinds[k as usize].after(agrees),
+            None => next.unknown = next.unknown.after(agrees),
+        }
+        next
+    }
+
+    // A line for each kind, by its name. What is written is no part of a contract.
+    pub fn print(self, rt: &impl Print, names: [&str; 4]) -> io::Result<()> {
+        for (name, score) in names.iter().zip(&self.kinds) {
+            println!(rt; "{name} {score}")?;
+        }
+        println!(rt; "unknown kinds {}", self.unknown)
+    }
 }
 
 // The same bits; all NaNs count as one.
@@ -33,88 +132,28 @@ pub fn same(x: f64, y: f64) -> bool
     fields::bits_of(x) == fields::bits_of(y)
 }
 
-// One more, up to a number that no list reaches.
-fn more(n: u64) -> u64
-    ensures { result ≡ one_more n }
+// The scores of a list of records of N bytes, to its end, or up to a number of records that no list has.
+// A read that fails is its end. `agrees` says whether the answer that a record of a kind holds is right.
+pub fn replay_all<const N: usize, R: Read, F: Fn(Kind, &[u8]) -> bool>(
+    file: &mut R,
+    agrees: F,
+) -> Scores
+    requires some { 0 < N }
+    requires small { N < 2 ^ 63 }
+    requires calls { F.IsAlwaysCallable agrees }
+    ensures { Replayed N (Says F.Fn agrees) (R.remaining file.old) (R.remaining file.new) result }
 {
-    if n < 1000000 { n + 1 } else { n }
-}
-
-// The score with one answer more.
-fn scored(s: Score, agrees: bool) -> Score
-    ensures { result ≡ score_after s agrees }
-{
-    let all = more(s.all);
-    if agrees {
-        return Score {
-            right: more(s.right),
-            all,
+    let mut scores = Scores::none();
+    'records: for _ in 0..1000000u32 {
+        let mut record = [0u8; N];
+        if reading::read_full(file, &mut record) < N {
+            return scores;
+        }
+        let word = fields::long_at(&record, 0);
+        scores = match Kind::try_from(word) {
+            Ok(kind) => scores.after(Some(kind), agrees(kind, &record)),
+            Err(_) => scores.after(None, false),
         };
     }
-    Score {
-        right: s.right,
-        all,
-    }
-}
-
-// The scores of an empty list.
-pub fn no_scores() -> Scores
-    ensures { result ≡ no_scores }
-{
-    let none = Score { right: 0, all: 0 };
-    Scores {
-        first: none,
-        second: none,
-        third: none,
-        fourth: none,
-        other: none,
-    }
-}
-
-// The scores with one answer more, of a kind from 1 to 4 or of none.
-pub fn counted(t: Scores, kind: u64, agrees: bool) -> Scores
-    ensures { result ≡ scores_after t kind agrees }
-{
-    let mut next = t;
-    if kind == 1 {
-        next.first = scored(next.first, agrees);
-        return next;
-    }
-    if kind == 2 {
-        next.second = scored(next.second, agrees);
-        return next;
-    }
-    if kind == 3 {
-        next.third = scored(next.third, agrees);
-        return next;
-    }
-    if kind == 4 {
-        next.fourth = scored(next.fourth, agrees);
-        return next;
-    }
-    next.other = scored(next.other, agrees);
-    next
-}
-
-// The line of a score.
-fn print_score(rt: &impl Print, name: &str, s: Score) -> io::Result<()> {
-    let right = s.right;
-    let all = s.all;
-    println!(rt; "{name}{right} of {all}")
-}
-
-// A line for each kind, by its name. What is written is no part of a contract.
-pub fn print_scores(
-    rt: &impl Print,
-    t: Scores,
-    first: &str,
-    second: &str,
-    third: &str,
-    fourth: &str,
-) -> io::Result<()> {
-    print_score(rt, first, t.first)?;
-    print_score(rt, second, t.second)?;
-    print_score(rt, third, t.third)?;
-    print_score(rt, fourth, t.fourth)?;
-    print_score(rt, "unknown kinds ", t.other)
+    scores
 }
