@@ -1,5 +1,5 @@
 -- One measuring of marks into a lent list, and what is read off it. Assumes nothing.
-use mathlib.Core.Path.{◌≡◌, sym, ap, ◌∙◌}
+use mathlib.Core.Path.{◌≡◌, sym, ◌∙◌}
 use mathlib.Core.Bool.{Bool, true, false}
 use mathlib.Core.List.{List, map}
 use Prim.Native.Nat.{ℕ, ◌≤◌}
@@ -9,7 +9,7 @@ use lib.ListN.{length, take, length-map}
 use lib.Ieee.{Float}
 use Rattle.std.proofs.lemmas.List.{length-take}
 use Rattle.rule.specs.Lists.{filled}
-use Rattle.rule.proofs.Lists.{count_most, filled-length, filled_front, filled_again}
+use Rattle.rule.proofs.Lists.{count_most, filled_front, filled_again}
 use Rattle.root.specs.Root.{root_of}
 use Rattle.numbers.specs.Measure.{if_counted}
 use Rattle.sheet.specs.Marks.{marks_of}
