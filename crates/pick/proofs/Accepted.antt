@@ -7,7 +7,8 @@ use Prim.Native.Nat.{ℕ, ◌≤◌}
 use borrow.Author.Tests.{le-ltb, eq-eqb}
 use lib.ListN.{length}
 use lib.Ieee.{Float}
-use Rattle.rule.specs.Answer.{gives}
+use Rattle.std.specs.Prelude.{Ok}
+use Rattle.rule.specs.Answer.{gives, told}
 use Rattle.rule.specs.Order.{Test, first_failed, room}
 use Rattle.rule.proofs.Order.{first_passed, all_passed, none_failed, decided-gives, decided-none}
 use Rattle.sheet.specs.Marks.{marks_of, shape, point, few, marks_tests}
@@ -22,12 +23,11 @@ use Rattle.measure.specs.Distances.{distances_of}
 use Rattle.score.specs.Places.{indices_in}
 use Rattle.judge.specs.Judging.{Call, of_run, entries, call_tests, tested_marks, tested_tests, judge_of, judge_tested, judgement_of, judgement_tested}
 use Rattle.judge.proofs.Ways.{judged_alike, beyond_alike}
-use Rattle.pick.specs.Run.{view_best, book_of, view_state}
-use Rattle.pick.specs.Opening.{opening_tests, opening_answer, view_opened}
+use Rattle.pick.specs.Run.{view_best, view_state}
+use Rattle.pick.specs.Opening.{opening_tests, opening_answer}
 use Rattle.pick.specs.Trial.{tried_with, trial_answer, step_answer}
 use Rattle.pick.specs.Indices.{marks_order, under_answer, winner_answer, indices_answer}
 use Rattle.pick.specs.declared.run_state.State.{State}
-use Rattle.pick.specs.declared.opening.Opened.TheVariants.{Open}
 
 module _ (o : RansacOptions) (l : List Float) (table : List ℕ) where
   -- what the opening's tests say of its marks where they all pass
@@ -45,9 +45,9 @@ module _ (o : RansacOptions) (l : List Float) (table : List ℕ) where
       let f = first_passed (few l) _ tt e.1 in
       record { shaped = d.0; points = e.0; enough = f.0 }
 
-  module _ (s₀ : State) (opening : view_opened (Open s₀) ≡ opening_answer o l table) where
+  module _ (s₀ : State) (opening : told view_state (Ok s₀) ≡ opening_answer o l table) where
     accepted : Fine
-    unfolding view_opened opening_answer
+    unfolding opening_answer
     accepted = fine (decided-gives (first_failed (opening_tests o l table)) opening).0
 
     -- ---- a trial
@@ -66,7 +66,7 @@ module _ (o : RansacOptions) (l : List Float) (table : List ℕ) where
         ap₂ (λ (j : Judged Model) (far : ℕ). record { worth = j; beyond = far }) (judged_alike p c _ _ (same_tests n c e)) (beyond_alike p c _ _ (same_tests n c e))
 
     pub steps_as_trial : (s : State) (c : Call) → c.marks ≡ l → step_answer (view_state s) c ≡ trial_answer (view_state s) c
-    unfolding step_answer trial_answer view_state
+    unfolding step_answer trial_answer
     steps_as_trial s c e = ap (tried_with (view_state s)) (same-judgement s.options s.n c e)
 
     -- ---- the indices
@@ -77,6 +77,6 @@ module _ (o : RansacOptions) (l : List Float) (table : List ℕ) where
 
     pub indices-written : (s : State) → s.n ≡ length (marks_of l) → (w : Winner Model) → view_best s.winner ≡ held w → (entry : List ℕ) → length (marks_of l) ≤ length entry
         → indices_answer (view_state s) l entry ≡ gives (length (indices_in s.options.thresh (distances_of s.options.ratio l w.model)))
-    unfolding indices_answer view_state book_of winner_answer under_answer
+    unfolding indices_answer winner_answer under_answer
     indices-written s n w holds entry room_for =
         rw holds (sym (decided-none (length (indices_in s.options.thresh (distances_of s.options.ratio l w.model))) (order_passes s.n (length entry) n room_for)))

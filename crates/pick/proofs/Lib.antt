@@ -1,6 +1,5 @@
 pub mod Booking
 pub mod Order
-pub mod Answers
+pub mod Written
 pub mod View
 pub mod Accepted
-pub mod Skipping

@@ -1,68 +1,74 @@
--- The views of the state and of what the calls answer can be taken back, so they tell any two values apart, and a contract on the view fixes the answer. A
--- state's view, and a trial's, leave nothing out besides: what a trial's contract asks for can be had. Assumes nothing.
-use mathlib.Core.Path.{◌≡◌, refl, ap}
-use Prim.Native.Nat.{ℕ}
-use Rattle.rule.specs.Answer.{Answer as Answering, refused, gives}
-use Rattle.rule.proofs.Views.{told_apart}
+-- The views of the state and of what the calls answer tell any two values apart, so a contract on the view fixes the answer. A state's view leaves nothing
+-- out besides, and each answer that a trial's contract asks for can be had. Assumes nothing.
+use mathlib.Core.Path.{◌≡◌, refl, sym, ap, ◌∙◌}
+use mathlib.Core.Logic.{◌⊎◌, inl, inr}
+use mathlib.Core.Bool.{Bool, true, false, cond}
+use mathlib.Core.List.{List, [], ◌∷◌}
+use Prim.Native.Nat.{ℕ, zero, suc}
+use native.Mathlib.Omega.{arith}
+use lib.Dec.{ltb}
+use lib.Ieee.{Float}
+use Rattle.std.specs.Prelude.{Option, Some, None, Result, Ok, Err}
+use Rattle.rule.specs.declared.Refusal.{Refusal}
+use Rattle.rule.specs.declared.Refusal.TheVariants as Refusals
+use Rattle.rule.specs.Refusal.{number_of}
+use Rattle.rule.specs.Answer.{Answer as Answering, refused, gives, told, answered}
+use Rattle.rule.specs.Order.{Test, first_failed, if_passed}
+use Rattle.rule.proofs.Views.{told_apart, told_one, answered_one}
+use Rattle.sheet.specs.Marks.{shape, point, few, marks_tests}
 use Rattle.sheet.specs.declared.model.Model.{Model}
+use Rattle.book.specs.Score as Score
+use Rattle.book.specs.Score.{Judged, turned_down, Trial, unfitted, fitted, refitted, judged_by, judge_trial}
 use Rattle.book.specs.Book as Book
-use Rattle.pick.specs.Run.{Run, Answer, view_winner, view_best, book_of, view_state, view_outcome, view_tried}
-use Rattle.pick.specs.Opening.{view_opened}
-use Rattle.pick.specs.Trial.{view_next}
-use Rattle.pick.specs.Indices.{view_indexed}
-use Rattle.pick.specs.declared.run_state.Best.{Best}
-use Rattle.pick.specs.declared.run_state.Best.TheVariants as Bests
+use Rattle.book.specs.Book.{scored_answer, entered}
+use Rattle.book.specs.Calls.{is_closed, tried}
+use Rattle.records.specs.Trial.{trial_record, trial_of}
+use Rattle.records.specs.declared.options.RansacOptions.{RansacOptions}
+use Rattle.judge.specs.Judging.{rule_of, Call, of_run, entries, call_tests, worth, judged_by as byTests, judge_of}
+use Rattle.pick.specs.Run.{Run, view_best, view_state, view_outcome, view_tried}
+use Rattle.pick.specs.Trial.{trial_answer}
+use Rattle.pick.specs.declared.run_state.Winner.{Winner}
 use Rattle.pick.specs.declared.run_state.State.{State}
 use Rattle.pick.specs.declared.run_state.Outcome.{Outcome}
 use Rattle.pick.specs.declared.run_state.Outcome.TheVariants as Outcomes
 use Rattle.pick.specs.declared.run_state.Tried.{Tried}
-use Rattle.pick.specs.declared.opening.Opened.{Opened}
-use Rattle.pick.specs.declared.opening.Opened.TheVariants as Openings
-use Rattle.pick.specs.declared.advancing.Next.{Next}
-use Rattle.pick.specs.declared.advancing.Next.TheVariants as Nexts
-use Rattle.pick.specs.declared.indices.Indexed.{Indexed}
-use Rattle.pick.specs.declared.indices.Indexed.TheVariants as Indices
 
 -- ---- the winner
 
-unfoldable best_of : Book.Held Model → Best
-best_of Book.none = Bests.Nothing
-best_of (Book.held w) = Bests.Held (record { model = w.model; count = w.count; rms = w.rms; number = w.number })
+best_of : Book.Held Model → Option Winner
+best_of Book.none = None
+best_of (Book.held w) = Some (record { model = w.model; count = w.count; rms = w.rms; number = w.number })
 
-best_back : (b : Best) → best_of (view_best b) ≡ b
-unfolding best_of view_best view_winner
-best_back Bests.Nothing = refl
-best_back (Bests.Held w) = refl
+best_back : (b : Option Winner) → best_of (view_best b) ≡ b
+unfolding best_of
+best_back None = refl
+best_back (Some w) = refl
 
 best_there : (h : Book.Held Model) → view_best (best_of h) ≡ h
-unfolding best_of view_best view_winner
+unfolding best_of
 best_there Book.none = refl
 best_there (Book.held w) = refl
 
-pub best_one : (x y : Best) → view_best x ≡ view_best y → x ≡ y
+pub best_one : (x y : Option Winner) → view_best x ≡ view_best y → x ≡ y
 best_one = told_apart view_best best_of best_back
 
 -- ---- the state
 
-unfoldable state_of : Run → State
+state_of : Run → State
 state_of r =
     record {
       options = r.options;
       n = r.n;
-      read = r.book.read;
-      empty = r.book.empties;
-      few = r.book.fews;
-      scored = r.book.scores;
-      bound = r.book.bound;
+      counts = record { read = r.book.read; empty = r.book.empties; few = r.book.fews; scored = r.book.scores; bound = r.book.bound };
       winner = best_of r.book.winner;
     }
 
 state_back : (s : State) → state_of (view_state s) ≡ s
-unfolding state_of view_state book_of
+unfolding state_of
 state_back s = rw (best_back s.winner)
 
 state_there : (r : Run) → view_state (state_of r) ≡ r
-unfolding state_of view_state book_of
+unfolding state_of
 state_there r = rw (best_there r.book.winner)
 
 pub state_one : (x y : State) → view_state x ≡ view_state y → x ≡ y
@@ -71,78 +77,152 @@ state_one = told_apart view_state state_of state_back
 pub state_onto : (r : Run) → (s : State) × (view_state s ≡ r)
 state_onto r = (state_of r, state_there r)
 
--- ---- a trial's answer
+-- ---- the opening's answer, the next state's and the indices'
 
-unfoldable outcome_of : Book.Outcome → Outcome
-outcome_of (Book.is_refused k) = Outcomes.Refused k
-outcome_of Book.is_empty = Outcomes.Empty
-outcome_of (Book.is_few k) = Outcomes.Few k
-outcome_of (Book.is_held k q) = Outcomes.Held k q
-outcome_of (Book.is_won k q) = Outcomes.Won k q
+pub state_told_one : (x y : Result State Refusal) → told view_state x ≡ told view_state y → x ≡ y
+state_told_one = told_one view_state state_of state_back
 
-outcome_back : (x : Outcome) → outcome_of (view_outcome x) ≡ x
-unfolding outcome_of view_outcome
-outcome_back (Outcomes.Refused k) = refl
+pub indexed-one : (x y : Result ℕ Refusal) → answered x ≡ answered y → x ≡ y
+indexed-one = answered_one
+
+-- ---- a trial's outcome
+
+-- A refused one apart from the others, as the code's `Result` has it.
+apart : Outcome → Result Book.Outcome Refusal
+apart (Outcomes.Refused e) = Err e
+apart Outcomes.Empty = Ok Book.is_empty
+apart (Outcomes.Few k) = Ok (Book.is_few k)
+apart (Outcomes.Held k q) = Ok (Book.is_held k q)
+apart (Outcomes.Won k q) = Ok (Book.is_won k q)
+
+outcome_of : Result Book.Outcome Refusal → Outcome
+outcome_of (Err e) = Outcomes.Refused e
+outcome_of (Ok (Book.is_refused k)) = Outcomes.Empty
+outcome_of (Ok Book.is_empty) = Outcomes.Empty
+outcome_of (Ok (Book.is_few k)) = Outcomes.Few k
+outcome_of (Ok (Book.is_held k q)) = Outcomes.Held k q
+outcome_of (Ok (Book.is_won k q)) = Outcomes.Won k q
+
+outcome_back : (x : Outcome) → outcome_of (apart x) ≡ x
+unfolding outcome_of apart
+outcome_back (Outcomes.Refused e) = refl
 outcome_back Outcomes.Empty = refl
 outcome_back (Outcomes.Few k) = refl
 outcome_back (Outcomes.Held k q) = refl
 outcome_back (Outcomes.Won k q) = refl
 
-outcome_there : (x : Book.Outcome) → view_outcome (outcome_of x) ≡ x
-unfolding outcome_of view_outcome
-outcome_there (Book.is_refused k) = refl
-outcome_there Book.is_empty = refl
-outcome_there (Book.is_few k) = refl
-outcome_there (Book.is_held k q) = refl
-outcome_there (Book.is_won k q) = refl
+answering : Book.Outcome → Answering Book.Outcome
+answering (Book.is_refused k) = refused k
+answering Book.is_empty = gives Book.is_empty
+answering (Book.is_few k) = gives (Book.is_few k)
+answering (Book.is_held k q) = gives (Book.is_held k q)
+answering (Book.is_won k q) = gives (Book.is_won k q)
+
+answers : (x : Outcome) → answered (apart x) ≡ answering (view_outcome x)
+unfolding answering apart
+answers (Outcomes.Refused e) = refl
+answers Outcomes.Empty = refl
+answers (Outcomes.Few k) = refl
+answers (Outcomes.Held k q) = refl
+answers (Outcomes.Won k q) = refl
 
 pub outcome-one : (x y : Outcome) → view_outcome x ≡ view_outcome y → x ≡ y
-outcome-one = told_apart view_outcome outcome_of outcome_back
+outcome-one x y h = told_apart apart outcome_of outcome_back x y (answered_one (apart x) (apart y) (answers x ∙ ap answering h ∙ sym (answers y)))
 
 pub tried-one : (x y : Tried) → view_tried x ≡ view_tried y → x ≡ y
-unfolding view_tried
-tried-one =
-    told_apart view_tried (λ a. record { state = state_of a.run; outcome = outcome_of a.outcome; beyond = a.beyond }) (λ x. rw (state_back x.state, outcome_back x.outcome))
+tried-one x y h =
+    let s : x.state ≡ y.state = state_one x.state y.state (ap (λ a. a.run) h) in
+    let o : x.outcome ≡ y.outcome = outcome-one x.outcome y.outcome (ap (λ a. a.outcome) h) in
+    let k : x.beyond ≡ y.beyond = ap (λ a. a.beyond) h in
+    λ i. record { state = s i; outcome = o i; beyond = k i }
 
-pub tried_onto : (a : Answer) → (t : Tried) × (view_tried t ≡ a)
-unfolding view_tried
-tried_onto a =
-    (record { state = state_of a.run; outcome = outcome_of a.outcome; beyond = a.beyond }, rw (state_there a.run, outcome_there a.outcome))
+-- ---- each answer that a trial's contract asks for can be had
 
--- ---- the opening's answer, the next state's and the indices'
+-- it is refused by one of the numbers, or not refused
+unfoldable Nameable : Judged Model → Type 0
+Nameable (turned_down k) = (e : Refusal) × (number_of e ≡ k)
+Nameable Score.empty = Unit {0}
+Nameable (Score.few k) = Unit {0}
+Nameable (Score.scored s) = Unit {0}
 
-opened_of : Answering Run → Opened
-opened_of (gives r) = Openings.Open (state_of r)
-opened_of (refused k) = Openings.Refused k
+module _ (o : Score.Options) (b : Book.Book Model) where
+  abbrev Had : Book.Outcome → Type 0
+  Had x = (y : Outcome) × (view_outcome y ≡ x)
 
-opened_back : (x : Opened) → opened_of (view_opened x) ≡ x
-unfolding view_opened opened_of
-opened_back (Openings.Open s) = ap Openings.Open (state_back s)
-opened_back (Openings.Refused k) = refl
+  scored_had : (s : Score.Standing Model) (h : Book.Held Model) → Had (scored_answer s h)
+  unfolding scored_answer
+  scored_had s h = go (Book.beats s h)
+    where
+      go : (c : Bool) → Had (cond c (Book.is_won s.count s.rms) (Book.is_held s.count s.rms))
+      go true = (Outcomes.Won s.count s.rms, refl)
+      go false = (Outcomes.Held s.count s.rms, refl)
 
-pub opened_one : (x y : Opened) → view_opened x ≡ view_opened y → x ≡ y
-opened_one = told_apart view_opened opened_of opened_back
+  entered_had : (j : Judged Model) → Nameable j → Had (entered o b j).outcome
+  unfolding entered Nameable
+  entered_had (turned_down k) n = (Outcomes.Refused n.0, ap Book.is_refused n.1)
+  entered_had Score.empty n = (Outcomes.Empty, refl)
+  entered_had (Score.few k) n = (Outcomes.Few k, refl)
+  entered_had (Score.scored s) n = scored_had s b.winner
 
-next_back : Answering Run → Next
-next_back (gives r) = Nexts.Read (state_of r)
-next_back (refused k) = Nexts.Refused k
+  tried_had : (j : Judged Model) → Nameable j → Had (tried o b j).outcome
+  unfolding tried
+  tried_had j n = go (is_closed b)
+    where
+      go : (c : Bool) → Had (cond c (record { book = b; outcome = Book.is_refused (number_of Refusals.Ended) }) (entered o b j)).outcome
+      go true = (Outcomes.Refused Refusals.Ended, refl)
+      go false = entered_had j n
 
-next_back_lem : (x : Next) → next_back (view_next x) ≡ x
-unfolding view_next next_back
-next_back_lem (Nexts.Read s) = ap Nexts.Read (state_back s)
-next_back_lem (Nexts.Refused k) = refl
+-- the numbers of a call's tests
+record Fails (ts : List Test) : Type 0 where
+  by : (first_failed ts ≡ 0) ⊎ ((e : Refusal) × (number_of e ≡ first_failed ts))
 
-pub next_one : (x y : Next) → view_next x ≡ view_next y → x ≡ y
-next_one = told_apart view_next next_back next_back_lem
+one_more : {t : Test} {ts : List Test} (e : Refusal) → number_of e ≡ t.number → Fails ts → Fails (t ∷ ts)
+unfolding first_failed
+one_more {t} {ts} e n rest = record { by = go t.fails }
+  where
+    go : (b : Bool) → (cond b t.number (first_failed ts) ≡ 0) ⊎ ((f : Refusal) × (number_of f ≡ cond b t.number (first_failed ts)))
+    go true = inr (e, n)
+    go false = rest.by
 
-indexed_of : Answering ℕ → Indexed
-indexed_of (gives n) = Indices.Written n
-indexed_of (refused k) = Indices.Refused k
+none_fails : Fails []
+unfolding first_failed
+none_fails = record { by = inl refl }
 
-indexed_back : (x : Indexed) → indexed_of (view_indexed x) ≡ x
-unfolding view_indexed indexed_of
-indexed_back (Indices.Written n) = refl
-indexed_back (Indices.Refused k) = refl
+call_fails : (n : ℕ) (c : Call) → Fails (call_tests n c)
+unfolding call_tests marks_tests of_run shape point few entries trial_record
+call_fails n c =
+    one_more Refusals.Shape refl
+    (one_more Refusals.Shape refl
+    (one_more Refusals.Point refl (one_more Refusals.Few refl (one_more Refusals.Stops refl (one_more Refusals.Record refl none_fails)))))
 
-pub indexed-one : (x y : Indexed) → view_indexed x ≡ view_indexed y → x ≡ y
-indexed-one = told_apart view_indexed indexed_of indexed_back
+-- a record that is read is worth no refusal
+module _ (o : Score.Options) (distances : Model → List Float) (stops : List ℕ) where
+  by_fit : (fit stands : Model) → Nameable (judged_by o distances stops fit stands)
+  unfolding judged_by Nameable
+  by_fit fit stands = go (ltb (Score.count_under o distances stops fit) o.least)
+    where
+      go : (b : Bool) → Nameable (cond b (Score.few (Score.count_under o distances stops fit)) (Score.scored (Score.standing o distances stops stands)))
+      go true = tt
+      go false = tt
+
+  by_trial : (t : Trial Model) → Nameable (judge_trial o distances stops t)
+  unfolding judge_trial Nameable
+  by_trial unfitted = tt
+  by_trial (fitted fit) = by_fit fit fit
+  by_trial (refitted fit refit) = by_fit fit _
+
+judged_nameable : (o : RansacOptions) (n : ℕ) (c : Call) → Nameable (judge_of o n c)
+unfolding judge_of byTests worth if_passed Nameable
+judged_nameable o n c = go (first_failed (call_tests n c)) (call_fails n c).by
+  where
+    go : (k : ℕ) → (k ≡ 0) ⊎ ((e : Refusal) × (number_of e ≡ k)) → Nameable (if_passed k (worth o c) (turned_down k))
+    go zero f = by_trial (rule_of o) _ c.stops (trial_of c.bytes)
+    go (suc k) (inl z) = absurd (omega (arith, z))
+    go (suc k) (inr e) = e
+
+pub trial_onto : (r : Run) (c : Call) → (t : Tried) × (view_tried t ≡ trial_answer r c)
+unfolding trial_answer
+trial_onto r c =
+    let a = trial_answer r c in
+    let x = tried_had (rule_of r.options) r.book (judge_of r.options r.n c) (judged_nameable r.options r.n c) in
+    (record { state = state_of a.run; outcome = x.0; beyond = a.beyond }, λ i. record { run = state_there a.run i; outcome = x.1 i; beyond = a.beyond })

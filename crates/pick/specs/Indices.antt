@@ -1,7 +1,7 @@
 -- Document 01, the winner indices: order 11, 5, 6, 7, 9 (n places). Places past the last written stay.
 use Rattle.std.specs.Prelude.{List, [], ◌∷◌, ◌++◌, ℕ, length, drop, Float}
 use Rattle.rule.specs.Refusal.{NONE}
-use Rattle.rule.specs.Answer.{Answer, refused, gives}
+use Rattle.rule.specs.Answer.{Answer, refused}
 use Rattle.rule.specs.Order.{Test, first_failed, decided, if_passed, room}
 use Rattle.sheet.specs.Marks.{marks_of, few, marks_tests}
 use Rattle.sheet.specs.declared.model.Model.{Model}
@@ -11,8 +11,6 @@ use Rattle.measure.specs.Distances.{distances_of}
 use Rattle.score.specs.Places.{indices_in}
 use Rattle.judge.specs.Judging.{of_run}
 use Rattle.pick.specs.Run.{Run}
-use Rattle.pick.specs.declared.indices.Indexed.{Indexed}
-use Rattle.pick.specs.declared.indices.Indexed.TheVariants.{Written, Refused}
 
 -- 5, 6, 7, 9
 unfoldable pub marks_order : ℕ → List Float → (places : ℕ) → List Test
@@ -43,7 +41,3 @@ indices_answer r marks entry = winner_answer r.n r.options r.book.winner marks e
 
 unfoldable pub indices_after : Run → List Float → List ℕ → List ℕ
 indices_after r marks entry = winner_after r.n r.options r.book.winner marks entry
-
-unfoldable pub view_indexed : Indexed → Answer ℕ
-view_indexed (Written n) = gives n
-view_indexed (Refused k) = refused k

@@ -1,107 +1,72 @@
 // One trial for a run that gives no outcome (document 01, 'Winner'): the next state and nothing
 // besides. A root mean square that can't decide who wins is not worked out.
-ghost use Rattle.std.specs.Prelude.{◌≡◌, false, ◌+◌, ◌≤◌, length, take};
+ghost use Rattle.std.specs.Prelude.{◌≡◌, ◌≤◌, length, take};
+ghost use Rattle.rule.specs.Answer.{told};
 ghost use Rattle.book.specs.Score.{scored};
-ghost use Rattle.book.specs.Book.{held, winner_after, entered};
-ghost use Rattle.book.specs.Calls.{is_closed};
-ghost use Rattle.judge.specs.Judging.{rule_of, support_with};
-ghost use Rattle.pick.specs.Run.{book_of, view_best, view_winner, view_state};
-ghost use Rattle.pick.specs.Trial.{booking_of, step_booking, next_of, squares_then, view_next};
+ghost use Rattle.book.specs.Book.{held, winner_after};
+ghost use Rattle.judge.specs.Judging.{call_of, support_with};
+ghost use Rattle.pick.specs.Run.{view_best, view_winner, view_state};
+ghost use Rattle.pick.specs.Trial.{booked, step_booking, next_of, squares_then};
 
-use crate::run_state::{Best, State, Winner};
-use crate::trials::{booked_empty, booked_few, scored_state};
-use judge::{Finding, Support};
-use score::Less;
+use crate::before_end::BeforeEnd;
+use crate::run_state::{State, Winner};
+use judge::{Call, Support, Verdict};
+use rule::Refusal;
 
-// What `advance` answers: the next state, or the number of the refusal.
-#[derive(Clone, Copy)]
-pub enum Next {
-    Read(State),
-    Refused(u32),
-}
-
-fn held_with(t: Support, rms: f64, number: u32) -> Best
-    ensures { view_best result ≡ held (record { model = t.model; count = t.count; rms = rms; number = number }) }
+// The winner after a scored trial: with a lower count the one so far stays whatever the root mean square
+// is, and with the same one unless that is less.
+#[tactic(auto, unfolding(book::specs::Book::winner_after, book::specs::Book::beats, book::specs::Book::is_better, score::specs::Less::less_of, judge::specs::Judging::support_with))]
+fn next_winner(
+    best: Option<Winner>,
+    t: Support,
+    number: u32,
+    thresh: f64,
+    squares: &[f64],
+) -> Winner
+    ensures { held (view_winner result) ≡ winner_after (support_with thresh squares.now t) number (view_best best) }
 {
-    let model = t.model;
-    Best::Held(Winner {
-        model,
+    let won = |rms| Winner {
+        model: t.model,
         count: t.count,
         rms,
         number,
-    })
-}
-
-// The winner after a scored trial, where one is held: with a lower count it stays whatever the root
-// mean square is, and with the same one unless that is less.
-fn winner_over(w: Winner, t: Support, number: u32, thresh: f64, squares: &[f64]) -> Best
-    ensures { view_best result ≡ winner_after (support_with thresh squares.now t) number (held (view_winner w)) }
-{
-    if t.count < w.count {
-        return Best::Held(w);
-    }
-    if w.count < t.count {
-        return held_with(t, score::rms(thresh, squares, t.count), number);
-    }
-    match score::rms_if_less(thresh, squares, t.count, w.rms) {
-        Less::Below(rms) => held_with(t, rms, number),
-        Less::NotBelow => Best::Held(w),
-    }
-}
-
-fn next_winner(best: Best, t: Support, number: u32, thresh: f64, squares: &[f64]) -> Best
-    ensures { view_best result ≡ winner_after (support_with thresh squares.now t) number (view_best best) }
-{
+    };
     match best {
-        Best::Nothing => held_with(t, score::rms(thresh, squares, t.count), number),
-        Best::Held(w) => winner_over(w, t, number, thresh, squares),
+        Some(w) if t.count < w.count => w,
+        Some(w) if t.count == w.count => {
+            score::rms_if_less(thresh, squares, t.count, w.rms).map_or(w, won)
+        }
+        _ => won(score::rms(thresh, squares, t.count)),
     }
 }
 
-// The state after a scored trial whose squares are at the front of the list.
-fn after_scored(s: State, t: Support, squares: &[f64]) -> State
-    requires s_value { is_closed (book_of s) ≡ false }
-    requires n_in_bounds { s.n ≤ length squares.now }
-    ensures { view_state result ≡ (booking_of (view_state s) (entered (rule_of s.options) (book_of s) (scored (support_with s.options.thresh (take s.n squares.now) t)))).run }
-{
-    let options = s.options;
-    let best = s.winner;
-    let n = s.n;
-    let winner = next_winner(best, t, s.read + 1, options.thresh, &squares[..n]);
-    scored_state(s, winner, t.stop)
+impl BeforeEnd {
+    // The state after a scored trial whose squares are at the front of the list.
+    #[tactic(auto, using(crate::proofs::Booking::open_counts), unfolding(book::specs::Book::entered, judge::specs::Judging::rule_of, judge::specs::Judging::support_with))]
+    fn after_scored(self, t: Support, squares: &[f64]) -> State
+        requires { self.state.n ≤ length squares.now }
+        ensures { view_state result ≡ (booked self.state (scored (support_with self.state.options.thresh (take self.state.n squares.now) t))).run }
+    {
+        let s = self.state;
+        let number = s.counts.read + 1;
+        let winner = next_winner(s.winner, t, number, s.options.thresh, &squares[..s.n]);
+        self.scored(Some(winner), t.stop)
+    }
 }
 
 // One trial over marks that were tested before, refused as `step` refuses it: the state is the one
 // that `step` gives. The squares of the marks are measured into the list that is lent, and no marks
 // beyond are counted.
-pub fn advance(
-    s: State,
-    bytes: &[u8],
-    marks: &[f64],
-    stops: &[u32],
-    squares: &mut [f64; 2000],
-) -> Next
-    ensures result_value { view_next result ≡ next_of (step_booking (view_state s) (record { bytes = bytes.now; marks = marks.now; stops = stops.now })) }
-    ensures squares_after { squares.new ≡ squares_then (view_state s) (record { bytes = bytes.now; marks = marks.now; stops = stops.now }) squares.old }
+#[tactic(auto, unfolding(crate::specs::Trial::step_booking, crate::specs::Trial::next_of, crate::specs::Trial::squares_then, book::specs::Calls::tried, book::specs::Calls::is_refusal, book::specs::Calls::number_in, book::specs::Book::entered, book::specs::Book::scored_answer))]
+pub fn advance(s: State, call: Call, squares: &mut [f64; 2000]) -> Result<State, Refusal>
+    ensures result_value { told view_state result ≡ next_of (step_booking (view_state s) (call_of call.entry)) }
+    ensures squares_after { squares.new ≡ squares_then (view_state s) (call_of call.entry) squares.old }
 {
-    if booking::is_closed(s.read, s.empty, s.few, s.scored, s.bound) {
-        return Next::Refused(rule::ENDED);
-    }
-    let options = s.options;
-    let found = judge::count_support(options, s.n, bytes, marks, stops, squares, false);
-    let finding = found.finding;
-    match finding {
-        Finding::Refused(k) => Next::Refused(k),
-        Finding::Empty => {
-            let booked = booked_empty(s);
-            let state = booked.state;
-            Next::Read(state)
-        }
-        Finding::Few(count) => {
-            let booked = booked_few(s, count);
-            let state = booked.state;
-            Next::Read(state)
-        }
-        Finding::Scored(t) => Next::Read(after_scored(s, t, squares)),
+    let before_end = BeforeEnd::of(s)?;
+    let found = judge::count_support(s.options, s.n, call, squares, false)?;
+    match found.verdict {
+        Verdict::Empty => Ok(before_end.empty()),
+        Verdict::Few(_) => Ok(before_end.few()),
+        Verdict::Scored(t) => Ok(before_end.after_scored(t, squares)),
     }
 }

@@ -3,13 +3,14 @@
 #![tactic(auto)]
 
 mod advancing;
+mod before_end;
 mod indices;
 mod opening;
 mod run_state;
 mod trials;
 
-pub use advancing::{Next, advance};
-pub use indices::{Indexed, winner_indices};
-pub use opening::{Opened, fresh_run, open, open_record};
-pub use run_state::{Best, Outcome, State, Tried, Winner};
+pub use advancing::advance;
+pub use indices::winner_indices;
+pub use opening::{fresh_run, open, open_record};
+pub use run_state::{Outcome, State, Tried, Winner};
 pub use trials::{step, trial};

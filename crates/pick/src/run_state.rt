@@ -1,5 +1,7 @@
-// The state of a run: the checked options, the number of marks, the counts, the bound and the winner.
+// The state of a run: the checked options, the number of marks, the counts with the bound, and the winner.
+use booking::Counts;
 use records::RansacOptions;
+use rule::Refusal;
 use sheet::Model;
 
 // The standing model of the best scored trial so far, its own count and root mean square, and the
@@ -13,40 +15,23 @@ pub struct Winner {
 }
 
 #[derive(Clone, Copy)]
-pub enum Best {
-    Nothing,
-    Held(Winner),
-}
-
-#[derive(Clone, Copy)]
 pub struct State {
     pub options: RansacOptions,
     pub n: usize,
-    pub read: u32,
-    pub empty: u32,
-    pub few: u32,
-    pub scored: u32,
-    // the run has ended when `read` reaches it
-    pub bound: u32,
-    pub winner: Best,
+    // the run has ended when `read` reaches `bound`
+    pub counts: Counts,
+    pub winner: Option<Winner>,
 }
 
-// What became of a trial: a refusal's number; no fit; too few marks, and how many; held or won, with
-// count and root mean square.
+// What became of a trial: refused; no fit; too few marks, and how many; held or won, with count and
+// root mean square.
 #[derive(Clone, Copy)]
 pub enum Outcome {
-    Refused(u32),
+    Refused(Refusal),
     Empty,
     Few(u32),
     Held(u32, f64),
     Won(u32, f64),
-}
-
-// What the book makes of a judged trial: the new state and the outcome.
-#[derive(Clone, Copy)]
-pub(crate) struct Booked {
-    pub state: State,
-    pub outcome: Outcome,
 }
 
 // A trial's answer: the new state, which is the old one where it was refused, the outcome, and how many

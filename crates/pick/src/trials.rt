@@ -1,177 +1,122 @@
-// One trial (document 01, 'Trials'): what the book makes of it, on any state.
-ghost use Rattle.std.specs.Prelude.{◌≡◌, false};
-ghost use Rattle.book.specs.Score.{empty, few, scored};
-ghost use Rattle.book.specs.Book.{is_refused, beats, winner_after, scored_answer, entered};
-ghost use Rattle.book.specs.Calls.{is_closed};
-ghost use Rattle.judge.specs.Judging.{rule_of, standing_of, view_verdict};
-ghost use Rattle.pick.specs.Run.{book_of, view_best, view_state, view_outcome, view_booked, view_tried};
-ghost use Rattle.pick.specs.Trial.{booking_of, answer_of, trial_answer, step_answer, scored_run};
+// One trial (document 01, 'Trials'), on any state.
+ghost use Rattle.std.specs.Prelude.{◌≡◌};
+ghost use Rattle.book.specs.Score.{scored};
+ghost use Rattle.book.specs.Book.{beats};
+ghost use Rattle.judge.specs.Judging.{call_of, judged_as, standing_of};
+ghost use Rattle.pick.specs.Run.{view_best, view_state, view_tried};
+ghost use Rattle.pick.specs.Trial.{booked, answer_of, answer_in, trial_answer, step_answer};
 
-use crate::run_state::{Best, Booked, Outcome, State, Tried, Winner};
-use judge::{Judgement, Standing, Verdict};
+use crate::before_end::BeforeEnd;
+use crate::run_state::{Outcome, State, Tried, Winner};
+use judge::{Call, Judgement, Standing, Verdict};
+use rule::Refusal;
 
 // Whether a scored trial wins: over the winner so far, or where nothing won before.
-fn wins(s: Standing, best: Best) -> bool
+#[tactic(auto, unfolding(book::specs::Book::beats, judge::specs::Judging::standing_of))]
+fn wins(s: Standing, best: Option<Winner>) -> bool
     ensures { result ≡ beats (standing_of s) (view_best best) }
 {
-    match best {
-        Best::Nothing => true,
-        Best::Held(w) => booking::is_better_model(s.count, s.rms, w.count, w.rms),
+    best.is_none_or(|w| booking::is_better_model(s.count, s.rms, w.count, w.rms))
+}
+
+impl BeforeEnd {
+    // The answer to a scored trial.
+    #[tactic(auto, using(crate::proofs::Booking::open_counts), unfolding(book::specs::Book::entered, book::specs::Book::winner_after, book::specs::Book::scored_answer, judge::specs::Judging::standing_of, judge::specs::Judging::rule_of))]
+    fn held_or_won(self, s: Standing, beyond: u32) -> Tried
+        ensures { view_tried result ≡ answer_of (booked self.state (scored (standing_of s))) beyond }
+    {
+        let best = self.state.winner;
+        if !wins(s, best) {
+            return Tried {
+                state: self.scored(best, s.stop),
+                outcome: Outcome::Held(s.count, s.rms),
+                beyond,
+            };
+        }
+        let winner = Winner {
+            model: s.model,
+            count: s.count,
+            rms: s.rms,
+            number: self.state.counts.read + 1,
+        };
+        Tried {
+            state: self.scored(Some(winner), s.stop),
+            outcome: Outcome::Won(s.count, s.rms),
+            beyond,
+        }
+    }
+
+    // The answer to a judged trial.
+    #[tactic(auto, unfolding(book::specs::Book::entered))]
+    fn answered(self, j: Judgement<Standing>) -> Tried
+        ensures { view_tried result ≡ answer_of (booked self.state (judged_as standing_of j.verdict)) j.beyond }
+    {
+        let beyond = j.beyond;
+        match j.verdict {
+            Verdict::Empty => Tried {
+                state: self.empty(),
+                outcome: Outcome::Empty,
+                beyond,
+            },
+            Verdict::Few(count) => Tried {
+                state: self.few(),
+                outcome: Outcome::Few(count),
+                beyond,
+            },
+            Verdict::Scored(s) => self.held_or_won(s, beyond),
+        }
+    }
+
+    // One trial over marks that were tested before: refused with 5, 7, 8 or 1, in this order.
+    #[tactic(auto, unfolding(crate::specs::Trial::step_answer, book::specs::Calls::tried, book::specs::Book::entered))]
+    fn judged(self, call: Call) -> Result<Tried, Refusal>
+        ensures { answer_in self.state result ≡ step_answer (view_state self.state) (call_of call.entry) }
+    {
+        let j = judge::judge(self.state.options, self.state.n, call)?;
+        Ok(self.answered(j))
     }
 }
 
-// The winner after a scored trial, whose number is `read`.
-fn winner_after(s: Standing, read: u32, best: Best) -> Best
-    ensures { view_best result ≡ winner_after (standing_of s) read (view_best best) }
+#[tactic(auto, unfolding(crate::specs::Trial::trial_answer, crate::specs::Trial::step_answer, book::specs::Calls::tried, book::specs::Book::entered, rule::specs::Order::first_failed, rule::specs::Order::if_passed, judge::specs::Judging::judge_of, judge::specs::Judging::judge_tested, judge::specs::Judging::judged_by, judge::specs::Judging::beyond_by, judge::specs::Judging::call_tests, judge::specs::Judging::tested_tests, judge::specs::Judging::tested_marks, judge::specs::Judging::of_run, sheet::specs::Marks::marks_tests, sheet::specs::Marks::shape, sheet::specs::Marks::point))]
+fn tried(s: State, call: Call) -> Result<Tried, Refusal>
+    ensures { answer_in s result ≡ trial_answer (view_state s) (call_of call.entry) }
 {
-    if !wins(s, best) {
-        return best;
+    let before_end = BeforeEnd::of(s)?;
+    if sheet::mark_count(call.marks) != s.n {
+        return Err(Refusal::Shape);
     }
-    let model = s.model;
-    Best::Held(Winner {
-        model,
-        count: s.count,
-        rms: s.rms,
-        number: read,
-    })
+    sheet::check_marks(call.marks)?;
+    before_end.judged(call)
 }
 
-fn scored_outcome(s: Standing, best: Best) -> Outcome
-    ensures { view_outcome result ≡ scored_answer (standing_of s) (view_best best) }
+#[tactic(auto, unfolding(crate::specs::Trial::step_answer, book::specs::Calls::tried))]
+fn stepped(s: State, call: Call) -> Result<Tried, Refusal>
+    ensures { answer_in s result ≡ step_answer (view_state s) (call_of call.entry) }
 {
-    if wins(s, best) {
-        Outcome::Won(s.count, s.rms)
-    } else {
-        Outcome::Held(s.count, s.rms)
-    }
+    BeforeEnd::of(s)?.judged(call)
 }
 
 // The old state, and the number.
-fn refused(s: State, k: u32) -> Tried
-    ensures { view_tried result ≡ answer_of (booking_of (view_state s) (record { book = book_of s; outcome = is_refused k })) 0 }
+fn refused(s: State, refusal: Refusal) -> Tried
+    ensures { view_tried result ≡ answer_in s (Err refusal) }
 {
     Tried {
         state: s,
-        outcome: Outcome::Refused(k),
+        outcome: Outcome::Refused(refusal),
         beyond: 0,
     }
 }
 
-pub(crate) fn booked_empty(s: State) -> Booked
-    requires { is_closed (book_of s) ≡ false }
-    ensures { view_booked result ≡ booking_of (view_state s) (entered (rule_of s.options) (book_of s) empty) }
-{
-    let mut t = s;
-    t.read += 1;
-    t.empty += 1;
-    Booked {
-        state: t,
-        outcome: Outcome::Empty,
-    }
-}
-
-pub(crate) fn booked_few(s: State, count: u32) -> Booked
-    requires { is_closed (book_of s) ≡ false }
-    ensures { view_booked result ≡ booking_of (view_state s) (entered (rule_of s.options) (book_of s) (few count)) }
-{
-    let mut t = s;
-    t.read += 1;
-    t.few += 1;
-    Booked {
-        state: t,
-        outcome: Outcome::Few(count),
-    }
-}
-
-// The state after a scored trial with this stop entry: it resets the bound, itself counted as read.
-pub(crate) fn scored_state(s: State, winner: Best, stop: u32) -> State
-    requires { is_closed (book_of s) ≡ false }
-    ensures { view_state result ≡ scored_run (view_state s) (view_best winner) stop }
-{
-    let options = s.options;
-    let read = s.read + 1;
-    let bound = booking::bound_after(stop, read, options.max_iters);
-    State {
-        options,
-        n: s.n,
-        read,
-        empty: s.empty,
-        few: s.few,
-        scored: s.scored + 1,
-        bound,
-        winner,
-    }
-}
-
-// A scored trial may win.
-fn booked_scored(s: State, score: Standing) -> Booked
-    requires { is_closed (book_of s) ≡ false }
-    ensures { view_booked result ≡ booking_of (view_state s) (entered (rule_of s.options) (book_of s) (scored (standing_of score))) }
-{
-    let best = s.winner;
-    let winner = winner_after(score, s.read + 1, best);
-    let outcome = scored_outcome(score, best);
-    let state = scored_state(s, winner, score.stop);
-    Booked { state, outcome }
-}
-
-// What the book makes of a judged trial, before the end.
-fn booked(s: State, v: Verdict) -> Booked
-    requires { is_closed (book_of s) ≡ false }
-    ensures { view_booked result ≡ booking_of (view_state s) (entered (rule_of s.options) (book_of s) (view_verdict v)) }
-{
-    match v {
-        Verdict::Refused(k) => Booked {
-            state: s,
-            outcome: Outcome::Refused(k),
-        },
-        Verdict::Empty => booked_empty(s),
-        Verdict::Few(count) => booked_few(s, count),
-        Verdict::Scored(score) => booked_scored(s, score),
-    }
-}
-
-// The answer to a judged trial, before the end.
-fn answered(s: State, j: Judgement) -> Tried
-    requires { is_closed (book_of s) ≡ false }
-    ensures { view_tried result ≡ answer_of (booking_of (view_state s) (entered (rule_of s.options) (book_of s) (view_verdict j.verdict))) j.beyond }
-{
-    let verdict = j.verdict;
-    let booked = booked(s, verdict);
-    let state = booked.state;
-    let outcome = booked.outcome;
-    Tried {
-        state,
-        outcome,
-        beyond: j.beyond,
-    }
-}
-
 // One trial over marks that were tested before: refused with 10, 5, 7, 8 or 1, in this order.
-pub fn step(s: State, bytes: &[u8], marks: &[f64], stops: &[u32]) -> Tried
-    ensures { view_tried result ≡ step_answer (view_state s) (record { bytes = bytes.now; marks = marks.now; stops = stops.now }) }
+pub fn step(s: State, call: Call) -> Tried
+    ensures { view_tried result ≡ step_answer (view_state s) (call_of call.entry) }
 {
-    if booking::is_closed(s.read, s.empty, s.few, s.scored, s.bound) {
-        return refused(s, rule::ENDED);
-    }
-    let options = s.options;
-    answered(s, judge::judge(options, s.n, bytes, marks, stops))
+    stepped(s, call).unwrap_or_else(|e| refused(s, e))
 }
 
 // One trial; refused with 10, 5, 6, 7, 8 or 1, in this order.
-pub fn trial(s: State, bytes: &[u8], marks: &[f64], stops: &[u32]) -> Tried
-    ensures { view_tried result ≡ trial_answer (view_state s) (record { bytes = bytes.now; marks = marks.now; stops = stops.now }) }
+pub fn trial(s: State, call: Call) -> Tried
+    ensures { view_tried result ≡ trial_answer (view_state s) (call_of call.entry) }
 {
-    if booking::is_closed(s.read, s.empty, s.few, s.scored, s.bound) {
-        return refused(s, rule::ENDED);
-    }
-    if sheet::mark_count(marks) != s.n {
-        return refused(s, rule::SHAPE);
-    }
-    let refusal = sheet::check_marks(marks);
-    if refusal != 0 {
-        return refused(s, refusal);
-    }
-    let options = s.options;
-    answered(s, judge::judge(options, s.n, bytes, marks, stops))
+    tried(s, call).unwrap_or_else(|e| refused(s, e))
 }

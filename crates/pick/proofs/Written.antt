@@ -1,0 +1,53 @@
+-- What the indices' order says of the lists where it passes: there is a place for each mark, and there are at most 2,000. So all indices are written.
+-- Assumes nothing.
+use mathlib.Core.Path.{◌≡◌, sym}
+use mathlib.Core.Bool.{false, not}
+use mathlib.Core.List.{List, [], ◌++◌}
+use Prim.Native.Nat.{ℕ, ◌%◌, ◌≤◌}
+use native.Mathlib.Omega.{arith}
+use borrow.Author.Tests.{ltb-false, le-ltb}
+use lib.Dec.{ltb, eqb}
+use lib.ListN.{length, drop}
+use lib.Ieee.{Float}
+use Rattle.rule.specs.Order.{first_failed, room}
+use Rattle.rule.proofs.Tests.{neither}
+use Rattle.rule.proofs.Order.{first_passed}
+use Rattle.rule.proofs.Lists.{places_count}
+use Rattle.sheet.specs.Marks.{marks_of, shape, point, few, marks_tests}
+use Rattle.sheet.specs.declared.model.Model.{Model}
+use Rattle.sheet.proofs.Places.{count}
+use Rattle.book.specs.Score.{close, count_in}
+use Rattle.measure.specs.Distances.{distances_of}
+use Rattle.measure.proofs.Squares.{distances-count}
+use Rattle.score.specs.Places.{indices_in, cramped, indexed, index_count}
+use Rattle.judge.specs.Judging.{of_run}
+use Rattle.pick.specs.Indices.{marks_order}
+
+module _ (n : ℕ) (ratio thresh : Float) (h : Model) (l : List Float) (entry : List ℕ) (passed : 0 ≡ first_failed (marks_order n l (length entry))) where
+  abbrev ds : List Float
+  ds = distances_of ratio l h
+
+  abbrev indices : List ℕ
+  indices = indices_in thresh ds
+
+  roomy : cramped ds entry ≡ false
+  unfolding marks_order marks_tests of_run shape point few room cramped
+  roomy =
+      let a = first_passed (of_run n l) _ tt (sym passed) in
+      let b = first_passed (shape l) _ tt a.1 in
+      let c = first_passed (point l) _ tt b.1 in
+      let d = first_passed (few l) _ tt c.1 in
+      let f = first_passed (room (length (marks_of l)) (length entry)) [] tt d.1 in
+      let short : length l ≤ 8000 = ltb-false 8000 (length l) (neither (not (eqb (length l % 4) 0)) (ltb 8000 (length l)) b.0).1 in
+      let place : length (marks_of l) ≤ length entry = ltb-false (length entry) (length (marks_of l)) f.0 in
+      let many = distances-count ratio l h in
+      let quarter = count l in
+      rw (le-ltb (length entry) (length ds) (omega (arith, many, place)), le-ltb 2000 (length ds) (omega (arith, many, quarter, short)))
+
+  pub count_written : index_count thresh ds entry ≡ length indices
+  unfolding index_count indices_in count_in
+  count_written = rw roomy (sym (places_count (close thresh) 0 ds))
+
+  pub all_written : indexed thresh ds entry ≡ indices ++ drop (length indices) entry
+  unfolding indexed
+  all_written = rw roomy
