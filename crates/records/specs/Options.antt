@@ -4,7 +4,7 @@ use Rattle.std.specs.Prelude.{Bool, true, not, cond, ◌&&◌, ◌||◌, List, [
 use Rattle.std.specs.Float.{binary64}
 use Rattle.std.specs.Float.Ieee.{of_bits, lt}
 use Rattle.rule.specs.Refusal.{RECORD, THRESH, CONFIDENCE, ITERS}
-use Rattle.rule.specs.Answer.{Answer}
+use Rattle.rule.specs.Answer.{Answer, refused, gives}
 use Rattle.rule.specs.Order.{Test, first_failed, decided}
 use Rattle.numbers.specs.Constants.{zero', one, usual_confidence}
 use Rattle.numbers.specs.Finite.{is_finite}
@@ -29,6 +29,10 @@ layout_by n = cond (eqb n (size_of short_layout)) short_layout options_layout
 
 unfoldable pub fields_in : List ℕ → List ℕ
 fields_in l = unpacked (layout_by (length l)) l
+
+-- whether a mark byte is set; 1 where it is neither 0 nor 1
+abbrev pub mark_answer : ℕ → Answer Bool
+mark_answer mark = cond (leb mark 1) (gives (eqb mark 1)) (refused RECORD)
 
 -- of what stands in the fields: the refit mark is 0 or 1, and zero bytes follow
 unfoldable pub options_sound : (fields : List ℕ) → Bool

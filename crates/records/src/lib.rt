@@ -7,5 +7,5 @@ mod options;
 mod trial;
 
 pub use marks::{read_mark, read_marks};
-pub use options::{RansacOptions, read_options, validate};
-pub use trial::{Recorded, Refitted, marks_formed, read_trial};
+pub use options::{RansacOptions, marked, read_options, validate};
+pub use trial::{Recorded, Refitted, marks_formed, parts_formed, read_trial};

@@ -3,7 +3,7 @@
 ghost use Rattle.std.specs.Prelude.{◌≡◌};
 ghost use Rattle.rule.specs.Answer.{answered, refusal_in};
 ghost use Rattle.rule.specs.Order.{first_failed};
-ghost use Rattle.records.specs.Options.{usual_options, options_answer, options_tests};
+ghost use Rattle.records.specs.Options.{mark_answer, usual_options, options_answer, options_tests};
 
 use rule::Refusal;
 
@@ -48,6 +48,17 @@ impl RansacOptions {
     }
 }
 
+// Whether a mark byte is set; refused with 1 where it is no mark.
+pub fn marked(byte: u8) -> Result<bool, Refusal>
+    ensures { answered result ≡ mark_answer byte }
+{
+    match byte {
+        0 => Ok(false),
+        1 => Ok(true),
+        _ => Err(Refusal::Record),
+    }
+}
+
 // The options of a record of 40 bytes, or of 32 without a ratio; refused with 1 where it is none. The
 // numbers are not tested.
 #[tactic(auto, using(crate::proofs::Formed::options_read))]
@@ -59,11 +70,7 @@ pub fn read_options(bytes: &[u8]) -> Result<RansacOptions, Refusal>
         40 => fields::double_at(bytes, 4),
         _ => return Err(Refusal::Record),
     };
-    let refit = match fields::byte_at(bytes, 24) {
-        0 => false,
-        1 => true,
-        _ => return Err(Refusal::Record),
-    };
+    let refit = marked(fields::byte_at(bytes, 24))?;
     if !fields::zero_bytes(bytes, 25, 32) {
         return Err(Refusal::Record);
     }
