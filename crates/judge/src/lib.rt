@@ -120,7 +120,7 @@ pub fn count_support(
         marks: call.marks,
         stops: call.stops,
     };
-    Ok(run.judged(trial, squares, counting))
+    Ok(run.judge_trial(trial, squares, counting))
 }
 
 // Judges a trial of a run of `n` marks. The numbers of the marks are not tested either.

@@ -71,7 +71,7 @@ impl<'a> Run<'a> {
 
     // Judges a trial but for the root mean square.
     #[tactic(auto, unfolding(book::specs::Score::judge_trial, book::specs::Score::beyond_fit, numbers::specs::Measure::if_counted, crate::specs::Judging::squares_after))]
-    pub fn judged(
+    pub fn judge_trial(
         self,
         trial: Recorded,
         squares: &mut [f64; 2000],
@@ -86,8 +86,8 @@ impl<'a> Run<'a> {
                 verdict: Verdict::Empty,
                 beyond: 0,
             },
-            Recorded::Fit(fit) => self.count_fit(fit, None, squares, counting),
-            Recorded::Refit(pair) => self.count_fit(pair.fit, Some(pair.refit), squares, counting),
+            Recorded::Fit(fit) => self.judge_fit(fit, None, squares, counting),
+            Recorded::Refit(pair) => self.judge_fit(pair.fit, Some(pair.refit), squares, counting),
         }
     }
 
@@ -96,7 +96,7 @@ impl<'a> Run<'a> {
     // measured again: the list has the squares of the model that stands. The marks beyond are those under
     // the fit, whichever stands.
     #[tactic(auto, using(crate::proofs::Measured::measured_twice), unfolding(book::specs::Score::judge_trial, book::specs::Score::judged_by, book::specs::Score::stands_of, book::specs::Score::standing, book::specs::Score::count_under, book::specs::Score::beyond_fit, crate::specs::Judging::rule_of, crate::specs::Judging::rms_under, crate::specs::Judging::squares_after))]
-    fn count_fit(
+    fn judge_fit(
         self,
         fit: Model,
         refit: Option<Model>,

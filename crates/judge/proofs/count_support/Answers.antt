@@ -20,5 +20,5 @@ invariant_of-run c = record { few_enough = passed_short _ _ _ c.in_ok-check.ensu
 
 pub returns : goal.returns
 returns c =
-    let z = record_judged _ _ _ _ _ c.in_ok-check.ensures c.in_ok-trial.ensures c.judged.ensures.verdict_value c.judged.ensures.beyond_value c.judged.ensures.squares_after in
+    let z = record_judged _ _ _ _ _ c.in_ok-check.ensures c.in_ok-trial.ensures c.judge_trial.ensures.verdict_value c.judge_trial.ensures.beyond_value c.judge_trial.ensures.squares_after in
     record { finding_value = z.0; beyond_value = z.1; squares_after = z.2 }
