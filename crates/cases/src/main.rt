@@ -6,10 +6,10 @@
 
 ghost use Rattle.std.specs.Prelude.{◌≤◌};
 
-use line::Collinear;
+use linalg::Normalized;
 use numbers::Quadratic;
-use root::Rooted;
-use sheet::{Mark, Measured, Model, Side};
+use rule::Refusal;
+use sheet::{Mark, Model, Points, Side};
 use std::io;
 
 fn print(rt: &impl Print, text: &str) -> io::Result<()> {
@@ -25,31 +25,29 @@ fn print_double(rt: &impl Print, x: f64) -> io::Result<()> {
     print!(rt; " {bits:016x}")
 }
 
-fn print_refused(rt: &impl Print, k: u32) -> io::Result<()> {
-    print!(rt; " refused {k}")
+fn print_refused(rt: &impl Print, refusal: Refusal) -> io::Result<()> {
+    print!(rt; " {refusal}")
 }
 
 fn show_root(rt: &impl Print, name: &str, a: f64) -> io::Result<()> {
     print(rt, name)?;
-    let answer = root::root(a);
-    match answer {
-        Rooted::Root(y) => print_double(rt, y)?,
-        Rooted::Refused(k) => print_refused(rt, k)?,
+    match root::root(a) {
+        Ok(y) => print_double(rt, y)?,
+        Err(refusal) => print_refused(rt, refusal)?,
     }
     print(rt, "\n")
 }
 
 fn show_quadratic(rt: &impl Print, name: &str, a: f64, b: f64, c: f64) -> io::Result<()> {
     print(rt, name)?;
-    let answer = numbers::solve_quadratic_real(a, b, c);
-    match answer {
-        Quadratic::NoRoot => print(rt, " none")?,
-        Quadratic::One(x) => print_double(rt, x)?,
-        Quadratic::Two(x, y) => {
+    match numbers::solve_quadratic_real(a, b, c) {
+        Ok(Quadratic::NoRoot) => print(rt, " none")?,
+        Ok(Quadratic::One(x)) => print_double(rt, x)?,
+        Ok(Quadratic::Two(x, y)) => {
             print_double(rt, x)?;
             print_double(rt, y)?;
         }
-        Quadratic::Refused(k) => print_refused(rt, k)?,
+        Err(refusal) => print_refused(rt, refusal)?,
     }
     print(rt, "\n")
 }
@@ -150,33 +148,34 @@ fn ranks(rt: &impl Print) -> io::Result<()> {
 }
 
 // Of a list, the first `n` numbers are the marks asked about, here and below.
-fn show_collinear(
-    rt: &impl Print,
-    name: &str,
-    marks: [f64; 16],
-    n: usize,
-    side: Side,
-) -> io::Result<()>
-    requires { n ≤ 16 }
-{
+fn show_collinear(rt: &impl Print, name: &str, marks: &[f64], side: Side) -> io::Result<()> {
     print(rt, name)?;
-    let answer = line::points_are_collinear(&marks[..n], side);
-    match answer {
-        Collinear::Yes => print(rt, " yes")?,
-        Collinear::No => print(rt, " no")?,
-        Collinear::Refused(k) => print_refused(rt, k)?,
+    match line::points_are_collinear(Points { marks, side }) {
+        Ok(true) => print(rt, " yes")?,
+        Ok(false) => print(rt, " no")?,
+        Err(refusal) => print_refused(rt, refusal)?,
     }
     print(rt, "\n")
 }
 
-// The first `n` places of a lent list, each number by its bits.
-fn print_places(rt: &impl Print, lent: &[f64; 72], n: usize) -> io::Result<()>
-    requires { n ≤ 72 }
-{
-    for i in 0..n {
-        print_double(rt, lent[i])?;
+// Each number of a list by its bits.
+fn print_places(rt: &impl Print, lent: &[f64]) -> io::Result<()> {
+    for x in lent {
+        print_double(rt, *x)?;
     }
     Ok(())
+}
+
+// The last column of the matrix, but for its 1. A refused call gives none: zeros stand for it.
+fn print_centre(rt: &impl Print, answer: Result<Normalized, Refusal>) -> io::Result<()> {
+    print(rt, ", centre")?;
+    match answer {
+        Ok(normalized) => {
+            print_double(rt, normalized.matrix[0].cells[2])?;
+            print_double(rt, normalized.matrix[1].cells[2])
+        }
+        Err(_) => print_places(rt, &[0.0, 0.0]),
+    }
 }
 
 // The refusal, if it is one; five places of a list of 7.0, of which the first `room` were lent; and
@@ -184,49 +183,41 @@ fn print_places(rt: &impl Print, lent: &[f64; 72], n: usize) -> io::Result<()>
 fn show_normalized(
     rt: &impl Print,
     name: &str,
-    marks: [f64; 16],
-    n: usize,
+    marks: &[f64],
     side: Side,
     room: usize,
 ) -> io::Result<()>
-    requires { (n ≤ 16) × (room ≤ 72) }
+    requires { room ≤ 72 }
 {
     print(rt, name)?;
     let mut lent = [7.0; 72];
-    let answer = linalg::normalize_points_2d(&marks[..n], side, &mut lent[..room]);
-    let first = answer.matrix[0];
-    let second = answer.matrix[1];
-    if answer.refusal != 0 {
-        print_refused(rt, answer.refusal)?;
+    let answer = linalg::normalize_points_2d(Points { marks, side }, &mut lent[..room]);
+    if let Err(refusal) = answer {
+        print_refused(rt, refusal)?;
     }
-    print_places(rt, &lent, 5)?;
-    print(rt, ", centre")?;
-    print_double(rt, first.cells[2])?;
-    print_double(rt, second.cells[2])?;
+    print_places(rt, &lent[..5])?;
+    print_centre(rt, answer)?;
     print(rt, "\n")
 }
 
 // The refusal, or the first mark's two rows.
-fn show_rows(rt: &impl Print, name: &str, marks: [f64; 16], n: usize, room: usize) -> io::Result<()>
-    requires { (n ≤ 16) × (room ≤ 72) }
+fn show_rows(rt: &impl Print, name: &str, marks: &[f64], room: usize) -> io::Result<()>
+    requires { room ≤ 72 }
 {
     print(rt, name)?;
     let mut lent = [7.0; 72];
-    let refusal = homography::dlt_rows(&marks[..n], &mut lent[..room]);
-    if refusal != 0 {
-        print_refused(rt, refusal)?;
-    } else {
-        print_places(rt, &lent, 18)?;
+    match homography::dlt_rows(marks, &mut lent[..room]) {
+        Ok(()) => print_places(rt, &lent[..18])?,
+        Err(refusal) => print_refused(rt, refusal)?,
     }
     print(rt, "\n")
 }
 
 fn print_distance(rt: &impl Print, h: Model, m: Mark, ratio: f64) -> io::Result<()> {
-    let answer = sheet::distance(h, m, ratio);
-    match answer {
-        Measured::Distance(d) => print_double(rt, d),
-        Measured::Beyond => print(rt, " beyond"),
-        Measured::Refused(k) => print_refused(rt, k),
+    match sheet::distance(h, m, ratio) {
+        Ok(Some(d)) => print_double(rt, d),
+        Ok(None) => print(rt, " beyond"),
+        Err(refusal) => print_refused(rt, refusal),
     }
 }
 
@@ -281,22 +272,20 @@ fn lines(rt: &impl Print) -> io::Result<()> {
     show_collinear(
         rt,
         "collinear (0,0) (0.0005,0) (0,0.001):",
-        nearly,
-        12,
+        &nearly[..12],
         Side::Sheet,
     )?;
-    show_collinear(rt, "collinear two points:", straight, 8, Side::Sheet)?;
-    show_collinear(rt, "collinear no points:", straight, 0, Side::Sheet)?;
+    show_collinear(rt, "collinear two points:", &straight[..8], Side::Sheet)?;
+    show_collinear(rt, "collinear no points:", &straight[..0], Side::Sheet)?;
     show_collinear(
         rt,
         "collinear (0,0) (1,0) (2,0) (3,0):",
-        straight,
-        16,
+        &straight[..16],
         Side::Sheet,
     )?;
-    show_collinear(rt, "collinear their pixels:", straight, 16, Side::Pixel)?;
-    show_collinear(rt, "collinear 7 numbers:", straight, 7, Side::Sheet)?;
-    show_collinear(rt, "collinear x = 2e9:", wide, 16, Side::Pixel)
+    show_collinear(rt, "collinear their pixels:", &straight[..16], Side::Pixel)?;
+    show_collinear(rt, "collinear 7 numbers:", &straight[..7], Side::Sheet)?;
+    show_collinear(rt, "collinear x = 2e9:", &wide[..16], Side::Pixel)
 }
 
 fn normalisings(rt: &impl Print) -> io::Result<()> {
@@ -313,23 +302,27 @@ fn normalisings(rt: &impl Print) -> io::Result<()> {
         origin,
         origin,
     );
-    show_normalized(rt, "normalising (1,1) (-1,-1):", pair, 8, Side::Sheet, 4)?;
-    show_normalized(rt, "normalising (-0,1) (-0,3):", signed, 8, Side::Sheet, 5)?;
-    show_normalized(rt, "normalising two at (0,0):", pair, 8, Side::Pixel, 4)?;
+    show_normalized(rt, "normalising (1,1) (-1,-1):", &pair[..8], Side::Sheet, 4)?;
+    show_normalized(
+        rt,
+        "normalising (-0,1) (-0,3):",
+        &signed[..8],
+        Side::Sheet,
+        5,
+    )?;
+    show_normalized(rt, "normalising two at (0,0):", &pair[..8], Side::Pixel, 4)?;
     show_normalized(
         rt,
         "normalising (0,0) (2^-51,0):",
-        signed,
-        8,
+        &signed[..8],
         Side::Pixel,
         4,
     )?;
-    show_normalized(rt, "normalising no points:", pair, 0, Side::Sheet, 4)?;
+    show_normalized(rt, "normalising no points:", &pair[..0], Side::Sheet, 4)?;
     show_normalized(
         rt,
         "normalising two points, 3 places:",
-        pair,
-        8,
+        &pair[..8],
         Side::Sheet,
         3,
     )
@@ -350,15 +343,14 @@ fn rows(rt: &impl Print) -> io::Result<()> {
         at(0.0, 2.0, 2.0, 0.0),
         at(3.0, 3.0, 3.0, 0.0),
     );
-    show_rows(rt, "rows of four marks, 71 places:", square, 16, 71)?;
-    show_rows(rt, "rows of three marks:", square, 12, 72)?;
-    show_rows(rt, "rows, sheet on a line:", sheet, 16, 72)?;
-    show_rows(rt, "rows, pixels on a line:", pixel, 16, 72)?;
+    show_rows(rt, "rows of four marks, 71 places:", &square[..16], 71)?;
+    show_rows(rt, "rows of three marks:", &square[..12], 72)?;
+    show_rows(rt, "rows, sheet on a line:", &sheet[..16], 72)?;
+    show_rows(rt, "rows, pixels on a line:", &pixel[..16], 72)?;
     show_rows(
         rt,
         "rows of (1,1), the first of four marks:",
-        square,
-        16,
+        &square[..16],
         72,
     )
 }

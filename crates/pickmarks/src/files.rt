@@ -72,7 +72,7 @@ pub(crate) fn read_marks<R: Files>(rt: &R, numbers: &mut [f64; 8000]) -> usize
     let mut bytes = [0u8; 64000];
     let len = read_mark_bytes(rt, &mut bytes);
     // of a file that is longer than any, the opening is given one number, so no matter which
-    let held = if len < 64000 { len } else { 64000 };
+    let held = len.min(64000);
     records::read_marks(&bytes[..held], numbers);
     number_count(len)
 }

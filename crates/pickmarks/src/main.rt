@@ -6,78 +6,78 @@
 mod files;
 mod lines;
 
-use pick::{Opened, Outcome, State};
+use judge::Call;
+use lines::TrialLine;
+use pick::{Outcome, State, Tried};
+use rule::Refusal;
 use std::io::Read;
 use std::rt::Files;
 use std::{fs, io};
 
-// What one turn of the trials gives: the state after a trial; nothing left to read; a refusal, whose
-// line is printed.
-#[derive(Clone, Copy)]
-enum Turn {
-    More(State),
-    End,
-    Refused,
+// Why a run ends early: a refusal, which is printed, or a line that can't be written.
+enum Stop {
+    Refused(Refusal),
+    Unwritten(io::Error),
 }
 
-// How the trials ended: with the last state, or at a refusal.
-#[derive(Clone, Copy)]
-enum Trials {
-    Over(State),
-    Refused,
+impl From<Refusal> for Stop {
+    fn from(e: Refusal) -> Stop {
+        Stop::Refused(e)
+    }
 }
 
-// The next trial of the file, and its line. One that is cut off goes to `step` as it is, and is
+impl From<io::Error> for Stop {
+    fn from(e: io::Error) -> Stop {
+        Stop::Unwritten(e)
+    }
+}
+
+// The next trial of the file: none at its end. One that is cut off goes to `step` as it is, and is
 // refused for its length. The opening tested the marks, and `step` doesn't test them again: it answers
 // as `trial` does (`by_steps` of crates/demand/specs/Demand.antt).
-fn next_trial<F: Read>(
-    rt: &impl Print,
-    file: &mut F,
-    s: State,
-    marks: &[f64],
-    stops: &[u32],
-) -> io::Result<Turn> {
+fn next_trial<F: Read>(file: &mut F, s: State, marks: &[f64], stops: &[u32]) -> Option<Tried> {
     let mut record = [0u8; 152];
     let len = reading::read_full(file, &mut record);
     if len == 0 {
-        return Ok(Turn::End);
+        return None;
     }
-    let tried = pick::step(s, &record[..len], marks, stops);
-    let state = tried.state;
-    let outcome = tried.outcome;
-    lines::print_trial(rt, state.read, outcome)?;
-    if let Outcome::Refused(_) = outcome {
-        return Ok(Turn::Refused);
-    }
-    Ok(Turn::More(state))
+    let bytes = &record[..len];
+    let call = Call {
+        bytes,
+        marks,
+        stops,
+    };
+    Some(pick::step(s, call))
 }
 
-// All trials up to the bound, the end of the file or a refusal. Each turn reads one, and the bound is
-// never above 100,000, the ceiling on max_iters, so the turns suffice.
+// All trials up to the bound, the end of the file or a refusal, and their lines; the last state. Each
+// turn reads one, and the bound is never above 100,000, the ceiling on max_iters, so the turns suffice.
 fn print_trials<F: Read>(
     rt: &impl Print,
     file: &mut F,
     s: State,
     marks: &[f64],
     stops: &[u32],
-) -> io::Result<Trials> {
+) -> Result<State, Stop> {
     let mut state = s;
-    let mut turns: u32 = 100_000;
-    while turns > 0 {
-        if state.bound <= state.read {
-            return Ok(Trials::Over(state));
+    for _ in 0..100_000 {
+        if state.counts.bound <= state.counts.read {
+            return Ok(state);
         }
-        let turn = next_trial(rt, file, state, marks, stops)?;
-        match turn {
-            Turn::End => return Ok(Trials::Over(state)),
-            Turn::Refused => return Ok(Trials::Refused),
-            Turn::More(next) => {
-                state = next;
-            }
+        let Some(tried) = next_trial(file, state, marks, stops) else {
+            return Ok(state);
+        };
+        if let Outcome::Refused(refusal) = tried.outcome {
+            return Err(Stop::Refused(refusal));
         }
-        turns -= 1;
+        state = tried.state;
+        let line = TrialLine {
+            number: state.counts.read,
+            outcome: tried.outcome,
+        };
+        println!(rt; "{line}")?;
     }
-    Ok(Trials::Over(state))
+    Ok(state)
 }
 
 // The trials of trials.bin; a file that can't be opened counts as empty.
@@ -86,36 +86,26 @@ fn print_file(
     s: State,
     marks: &[f64],
     stops: &[u32],
-) -> io::Result<Trials> {
+) -> Result<State, Stop> {
     match fs::open(rt, "trials.bin") {
         Ok(mut file) => print_trials(rt, &mut file, s, marks, stops),
-        Err(_) => Ok(Trials::Over(s)),
-    }
-}
-
-// What is printed after an accepted opening.
-fn print_run(rt: &(impl Files + Print), s: State, marks: &[f64], stops: &[u32]) -> io::Result<()> {
-    rt.print("trial outcome count rms\n")?;
-    match print_file(rt, s, marks, stops)? {
-        Trials::Refused => Ok(()),
-        Trials::Over(last) => {
-            lines::print_winner(rt, last, marks)?;
-            lines::print_counts(rt, last)
-        }
+        Err(_) => Ok(s),
     }
 }
 
 // What is printed for an options record, the numbers of a mark list and the entries of a stop list.
-fn print_all(
+fn print_run(
     rt: &(impl Files + Print),
     record: &[u8],
     marks: &[f64],
     stops: &[u32],
-) -> io::Result<()> {
-    match pick::open_record(record, marks, stops) {
-        Opened::Refused(k) => lines::print_refused(rt, k),
-        Opened::Open(s) => print_run(rt, s, marks, stops),
-    }
+) -> Result<(), Stop> {
+    let s = pick::open_record(record, marks, stops)?;
+    rt.print("trial outcome count rms\n")?;
+    let last = print_file(rt, s, marks, stops)?;
+    lines::print_winner(rt, last, marks)?;
+    lines::print_counts(rt, last)?;
+    Ok(())
 }
 
 fn main(rt: HostRuntime) -> io::Result<()> {
@@ -126,5 +116,9 @@ fn main(rt: HostRuntime) -> io::Result<()> {
     let numbers = files::read_marks(&rt, &mut marks);
     let mut stops = [0u32; 2001];
     let entries = files::read_stops(&rt, &mut stops);
-    print_all(&rt, &record[..bytes], &marks[..numbers], &stops[..entries])
+    match print_run(&rt, &record[..bytes], &marks[..numbers], &stops[..entries]) {
+        Ok(()) => Ok(()),
+        Err(Stop::Refused(refusal)) => println!(rt; "{refusal}"),
+        Err(Stop::Unwritten(e)) => Err(e),
+    }
 }

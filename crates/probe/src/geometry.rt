@@ -1,16 +1,16 @@
 // The entries over marks for the comparison: lists as they are, a side and a place by number, and a
 // model and a mark as plain numbers.
 ghost use Rattle.std.specs.Prelude.{◌≡◌};
-ghost use Rattle.rule.specs.Answer.{gives};
-ghost use Rattle.sheet.specs.Distance.{projection_of, measure_of, distance_answer, view_measured};
+ghost use Rattle.rule.specs.Answer.{told, gives, refusal_in};
+ghost use Rattle.sheet.specs.Distance.{projection_of, measure_of, distance_answer, measured};
 ghost use Rattle.line.specs.Collinear.{collinear_answer};
 ghost use Rattle.homography.specs.Rows.{Rowing};
 ghost use Rattle.probe.specs.Flat.{measure_told, value_of, told_of, side_of, part_of};
 ghost use Rattle.probe.specs.Plain.{model_of, mark_of, point_of, Written, MatrixEntry};
 
-use crate::{none, place_of_two};
-use line::Collinear;
-use sheet::{Mark, Measured, Model, Point, Side};
+use crate::place_of;
+use rule::Refusal;
+use sheet::{Mark, Model, Point, Points, Side};
 
 fn side_of(side: u32) -> Side
     ensures { result ≡ side_of side }
@@ -22,11 +22,11 @@ fn side_of(side: u32) -> Side
 pub extern "C" fn probe_normalize_points_2d(marks: &[f64], side: u32, points: &mut [f64]) -> u32
     ensures { Written marks.now (side_of side) points.old result points.new }
 {
-    let answer = linalg::normalize_points_2d(marks, side_of(side), points);
-    answer.refusal
+    let side = side_of(side);
+    rule::number(linalg::normalize_points_2d(Points { marks, side }, points))
 }
 
-// The same call, for the entry of the matrix at `place`, row by row.
+// The same call, for the entry of the matrix at `place`, row by row: 0 where it is refused.
 #[unsafe(no_mangle)]
 pub extern "C" fn probe_normalize_matrix(
     marks: &[f64],
@@ -36,25 +36,28 @@ pub extern "C" fn probe_normalize_matrix(
 ) -> f64
     ensures { MatrixEntry marks.now (side_of side) points.old place result points.new }
 {
-    let answer = linalg::normalize_points_2d(marks, side_of(side), points);
+    let side = side_of(side);
+    let answer = linalg::normalize_points_2d(Points { marks, side }, points);
     if place >= 9 {
-        return none();
+        return f64::NAN;
     }
-    let i = (place / 3) as usize;
-    let j = (place % 3) as usize;
-    let row = answer.matrix[i];
-    row.cells[j]
+    match answer {
+        Ok(normalized) => {
+            let row = normalized.matrix[(place / 3) as usize];
+            row.cells[(place % 3) as usize]
+        }
+        Err(_) => 0.0,
+    }
 }
 
 #[unsafe(no_mangle)]
 pub extern "C" fn probe_points_are_collinear(marks: &[f64], side: u32) -> u32
     ensures { result ≡ told_of (collinear_answer marks.now (side_of side)) }
 {
-    let answer = line::points_are_collinear(marks, side_of(side));
-    match answer {
-        Collinear::Yes => 1,
-        Collinear::No => 0,
-        Collinear::Refused(k) => k,
+    let side = side_of(side);
+    match line::points_are_collinear(Points { marks, side }) {
+        Ok(yes) => u32::from(yes),
+        Err(refusal) => refusal as u32,
     }
 }
 
@@ -62,31 +65,30 @@ pub extern "C" fn probe_points_are_collinear(marks: &[f64], side: u32) -> u32
 pub extern "C" fn probe_dlt_rows(marks: &[f64], rows: &mut [f64]) -> u32
     ensures { Rowing marks.now rows.old result rows.new }
 {
-    homography::dlt_rows(marks, rows)
+    rule::number(homography::dlt_rows(marks, rows))
 }
 
 // What stands for a mark that is beyond: no refusal has this number.
 const BEYOND: u32 = 256;
 
 // 0 where there is a distance, `BEYOND`, or the refusal's number.
-fn told(answer: Measured) -> u32
-    ensures { result ≡ measure_told (view_measured answer) }
+fn told(answer: Result<Option<f64>, Refusal>) -> u32
+    ensures { result ≡ measure_told (told measured answer) }
 {
     match answer {
-        Measured::Distance(d) => 0,
-        Measured::Beyond => BEYOND,
-        Measured::Refused(k) => k,
+        Ok(Some(_)) => 0,
+        Ok(None) => BEYOND,
+        Err(refusal) => refusal as u32,
     }
 }
 
 // The distance, or a NaN where there is none.
-fn value(answer: Measured) -> f64
-    ensures { result ≡ value_of (view_measured answer) }
+fn value(answer: Result<Option<f64>, Refusal>) -> f64
+    ensures { result ≡ value_of (told measured answer) }
 {
     match answer {
-        Measured::Distance(d) => d,
-        Measured::Beyond => none(),
-        Measured::Refused(k) => none(),
+        Ok(Some(d)) => d,
+        _ => f64::NAN,
     }
 }
 
@@ -109,17 +111,7 @@ pub extern "C" fn probe_distance_told(
 ) -> u32
     ensures { result ≡ measure_told (distance_answer ratio (model_of h0 h1 h2 h3 h4 h5 h6 h7 h8) (mark_of x y u v)) }
 {
-    let h = Model {
-        h0,
-        h1,
-        h2,
-        h3,
-        h4,
-        h5,
-        h6,
-        h7,
-        h8,
-    };
+    let h = Model::from([h0, h1, h2, h3, h4, h5, h6, h7, h8]);
     told(sheet::distance(h, Mark { x, y, u, v }, ratio))
 }
 
@@ -142,17 +134,7 @@ pub extern "C" fn probe_distance(
 ) -> f64
     ensures { result ≡ value_of (distance_answer ratio (model_of h0 h1 h2 h3 h4 h5 h6 h7 h8) (mark_of x y u v)) }
 {
-    let h = Model {
-        h0,
-        h1,
-        h2,
-        h3,
-        h4,
-        h5,
-        h6,
-        h7,
-        h8,
-    };
+    let h = Model::from([h0, h1, h2, h3, h4, h5, h6, h7, h8]);
     value(sheet::distance(h, Mark { x, y, u, v }, ratio))
 }
 
@@ -175,18 +157,8 @@ pub extern "C" fn probe_residual_told(
 ) -> u32
     ensures { result ≡ measure_told (gives (measure_of ratio (model_of h0 h1 h2 h3 h4 h5 h6 h7 h8) (mark_of x y u v))) }
 {
-    let h = Model {
-        h0,
-        h1,
-        h2,
-        h3,
-        h4,
-        h5,
-        h6,
-        h7,
-        h8,
-    };
-    told(sheet::residual(h, Mark { x, y, u, v }, ratio))
+    let h = Model::from([h0, h1, h2, h3, h4, h5, h6, h7, h8]);
+    told(Ok(sheet::residual(h, Mark { x, y, u, v }, ratio)))
 }
 
 #[unsafe(no_mangle)]
@@ -208,18 +180,8 @@ pub extern "C" fn probe_residual(
 ) -> f64
     ensures { result ≡ value_of (gives (measure_of ratio (model_of h0 h1 h2 h3 h4 h5 h6 h7 h8) (mark_of x y u v))) }
 {
-    let h = Model {
-        h0,
-        h1,
-        h2,
-        h3,
-        h4,
-        h5,
-        h6,
-        h7,
-        h8,
-    };
-    value(sheet::residual(h, Mark { x, y, u, v }, ratio))
+    let h = Model::from([h0, h1, h2, h3, h4, h5, h6, h7, h8]);
+    value(Ok(sheet::residual(h, Mark { x, y, u, v }, ratio)))
 }
 
 #[unsafe(no_mangle)]
@@ -239,21 +201,7 @@ pub extern "C" fn probe_projection(
 ) -> f64
     ensures { result ≡ part_of place (projection_of (model_of h0 h1 h2 h3 h4 h5 h6 h7 h8) (point_of x y)) }
 {
-    let h = Model {
-        h0,
-        h1,
-        h2,
-        h3,
-        h4,
-        h5,
-        h6,
-        h7,
-        h8,
-    };
+    let h = Model::from([h0, h1, h2, h3, h4, h5, h6, h7, h8]);
     let to = sheet::project(h, Point { x, y });
-    if place == 0 {
-        to.s
-    } else {
-        place_of_two(to.at.x, to.at.y, place - 1)
-    }
+    place_of(&[to.s, to.at.x, to.at.y], place)
 }

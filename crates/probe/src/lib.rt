@@ -13,28 +13,14 @@ ghost use Rattle.numbers.specs.Rank.{rank_ok};
 ghost use Rattle.probe.specs.Flat.{refusal_of, count_of, place_of};
 
 use numbers::Quadratic;
-use root::Rooted;
 
-fn none() -> f64
-    ensures { result ≡ nan }
+// The number at a place, a NaN where there is none.
+fn place_of(numbers: &[f64], place: u32) -> f64
+    ensures { result ≡ get_or numbers.now place nan }
 {
-    0.0 / 0.0
-}
-
-// The number at `place` of one, and of two.
-fn place_of_one(x: f64, place: u32) -> f64
-    ensures { result ≡ get_or (x ∷ []) place nan }
-{
-    if place == 0 { x } else { none() }
-}
-
-fn place_of_two(x: f64, y: f64, place: u32) -> f64
-    ensures { result ≡ get_or (x ∷ y ∷ []) place nan }
-{
-    if place == 0 {
-        x
-    } else {
-        place_of_one(y, place - 1)
+    match numbers.get(place as usize) {
+        Some(x) => *x,
+        None => f64::NAN,
     }
 }
 
@@ -50,31 +36,26 @@ pub extern "C" fn probe_sqrt(a: f64) -> f64
 pub extern "C" fn probe_sqrt_two(a: f64, b: f64, place: u32) -> f64
     ensures { result ≡ get_or (root_of a ∷ root_of b ∷ []) place nan }
 {
-    let two = root::sqrt_two(a, b);
-    place_of_two(two.first, two.second, place)
+    let (x, y) = root::sqrt_two(a, b);
+    place_of(&[x, y], place)
 }
 
 #[unsafe(no_mangle)]
 pub extern "C" fn probe_root_refusal(a: f64) -> u32
     ensures { result ≡ refusal_of (root_answer a) }
 {
-    let answer = root::root(a);
-    match answer {
-        Rooted::Root(y) => 0,
-        Rooted::Refused(k) => k,
-    }
+    rule::number(root::root(a))
 }
 
 #[unsafe(no_mangle)]
 pub extern "C" fn probe_quadratic_count(a: f64, b: f64, c: f64) -> u32
     ensures { result ≡ count_of (quadratic_answer a b c) }
 {
-    let answer = numbers::solve_quadratic_real(a, b, c);
-    match answer {
-        Quadratic::NoRoot => 0,
-        Quadratic::One(x) => 1,
-        Quadratic::Two(x, y) => 2,
-        Quadratic::Refused(k) => k,
+    match numbers::solve_quadratic_real(a, b, c) {
+        Ok(Quadratic::NoRoot) => 0,
+        Ok(Quadratic::One(_)) => 1,
+        Ok(Quadratic::Two(_, _)) => 2,
+        Err(refusal) => refusal as u32,
     }
 }
 
@@ -82,12 +63,10 @@ pub extern "C" fn probe_quadratic_count(a: f64, b: f64, c: f64) -> u32
 pub extern "C" fn probe_quadratic_root(a: f64, b: f64, c: f64, place: u32) -> f64
     ensures { result ≡ place_of place (quadratic_answer a b c) }
 {
-    let answer = numbers::solve_quadratic_real(a, b, c);
-    match answer {
-        Quadratic::NoRoot => none(),
-        Quadratic::One(x) => place_of_one(x, place),
-        Quadratic::Two(x, y) => place_of_two(x, y, place),
-        Quadratic::Refused(k) => none(),
+    match numbers::solve_quadratic_real(a, b, c) {
+        Ok(Quadratic::One(x)) => place_of(&[x], place),
+        Ok(Quadratic::Two(x, y)) => place_of(&[x, y], place),
+        _ => f64::NAN,
     }
 }
 

@@ -7,34 +7,35 @@ mod scoring;
 mod writing;
 
 ghost use Rattle.std.specs.Prelude.{◌≡◌};
+ghost use Rattle.rule.specs.Answer.{told};
 ghost use Rattle.rule.specs.Lists.{filled};
 ghost use Rattle.records.specs.Marks.{numbers_in};
 ghost use Rattle.records.specs.Options.{usual_options};
-ghost use Rattle.pick.specs.Opening.{opening_answer, record_answer, view_opened};
+ghost use Rattle.pick.specs.Run.{view_state};
+ghost use Rattle.pick.specs.Opening.{opening_answer, record_answer};
 ghost use Rattle.probe_pick.specs.Words.{made_words};
 ghost use Rattle.probe_pick.specs.Calls.{options_of, made_number, opened_number, opened_after, tried_number, tried_after, listed_number, listed_after};
 
-use pick::{Indexed, Opened};
+use judge::Call;
+use pick::State;
 use records::RansacOptions;
+use rule::Refusal;
 
 // The answer of a call that has too few words to read, or too few places for those that it writes.
 const NO_WORDS: u32 = 0xffff_ffff;
 
 // An opening's answer as a number, with the state's words written where it is not refused.
-fn put_opened(opened: Opened, state: &mut [u64]) -> u32
-    ensures value { result ≡ opened_number (view_opened opened) state.old }
-    ensures state_after { state.new ≡ opened_after (view_opened opened) state.old }
+fn put_opened(opened: Result<State, Refusal>, state: &mut [u64]) -> u32
+    ensures value { result ≡ opened_number (told view_state opened) state.old }
+    ensures state_after { state.new ≡ opened_after (told view_state opened) state.old }
 {
     if state.len() < 25 {
         return NO_WORDS;
     }
-    match opened {
-        Opened::Refused(k) => k,
-        Opened::Open(s) => {
-            writing::put_state(s, state);
-            0
-        }
+    if let Ok(s) = opened {
+        writing::put_state(s, state);
     }
+    rule::number(opened)
 }
 
 #[unsafe(no_mangle)]
@@ -104,10 +105,12 @@ pub extern "C" fn probe_trial(
     if out.len() < 29 {
         return NO_WORDS;
     }
-    writing::put_tried(
-        pick::trial(reading::state_in(state), bytes, marks, stops),
-        out,
-    );
+    let call = Call {
+        bytes,
+        marks,
+        stops,
+    };
+    writing::put_tried(pick::trial(reading::state_in(state), call), out);
     0
 }
 
@@ -120,10 +123,9 @@ pub extern "C" fn probe_winner_indices(state: &[u64], marks: &[f64], indices: &m
     if state.len() < 25 {
         return 0x2_0000_0000;
     }
-    let answer = pick::winner_indices(reading::state_in(state), marks, indices);
-    match answer {
-        Indexed::Written(n) => n as u64,
-        Indexed::Refused(k) => 0x1_0000_0000 + k as u64,
+    match pick::winner_indices(reading::state_in(state), marks, indices) {
+        Ok(n) => n as u64,
+        Err(refusal) => 0x1_0000_0000 + refusal as u64,
     }
 }
 

@@ -3,14 +3,18 @@ ghost use Rattle.std.specs.Prelude.{◌≡◌, get_or};
 ghost use Rattle.pick.specs.Run.{view_best, view_state};
 ghost use Rattle.probe_pick.specs.Words.{small_at, number_at, flag_at, model_in, winner_in, options_in, run_in};
 
-use pick::{Best, State, Winner};
+use booking::Counts;
+use pick::{State, Winner};
 use records::RansacOptions;
 use sheet::Model;
 
 fn word_at(words: &[u64], i: usize) -> u64
     ensures { result ≡ get_or words.now i 0 }
 {
-    if i < words.len() { words[i] } else { 0 }
+    match words.get(i) {
+        Some(word) => *word,
+        None => 0,
+    }
 }
 
 fn small_at(words: &[u64], i: usize) -> u32
@@ -34,26 +38,26 @@ fn flag_at(words: &[u64], i: usize) -> bool
 fn model_in(words: &[u64]) -> Model
     ensures { result ≡ model_in words.now }
 {
-    Model {
-        h0: number_at(words, 15),
-        h1: number_at(words, 16),
-        h2: number_at(words, 17),
-        h3: number_at(words, 18),
-        h4: number_at(words, 19),
-        h5: number_at(words, 20),
-        h6: number_at(words, 21),
-        h7: number_at(words, 22),
-        h8: number_at(words, 23),
-    }
+    Model::from([
+        number_at(words, 15),
+        number_at(words, 16),
+        number_at(words, 17),
+        number_at(words, 18),
+        number_at(words, 19),
+        number_at(words, 20),
+        number_at(words, 21),
+        number_at(words, 22),
+        number_at(words, 23),
+    ])
 }
 
-fn winner_in(words: &[u64]) -> Best
+fn winner_in(words: &[u64]) -> Option<Winner>
     ensures { view_best result ≡ winner_in words.now }
 {
     if !flag_at(words, 11) {
-        return Best::Nothing;
+        return None;
     }
-    Best::Held(Winner {
+    Some(Winner {
         model: model_in(words),
         count: small_at(words, 12),
         rms: number_at(words, 14),
@@ -80,11 +84,13 @@ pub(crate) fn state_in(words: &[u64]) -> State
     State {
         options: options_in(words),
         n: word_at(words, 5) as usize,
-        read: small_at(words, 6),
-        empty: small_at(words, 7),
-        few: small_at(words, 8),
-        scored: small_at(words, 9),
-        bound: small_at(words, 10),
+        counts: Counts {
+            read: small_at(words, 6),
+            empty: small_at(words, 7),
+            few: small_at(words, 8),
+            scored: small_at(words, 9),
+            bound: small_at(words, 10),
+        },
         winner: winner_in(words),
     }
 }

@@ -1,6 +1,5 @@
 // Measuring and scoring for the comparison: a model as nine numbers, and lists as they are.
 ghost use Rattle.std.specs.Prelude.{◌≡◌, map};
-ghost use Rattle.std.specs.Float.{nan};
 ghost use Rattle.rule.specs.Lists.{filled};
 ghost use Rattle.root.specs.Root.{root_of};
 ghost use Rattle.book.specs.Score.{count_in, squares_in, rms_of};
@@ -9,7 +8,6 @@ ghost use Rattle.score.specs.Places.{index_count, indexed};
 ghost use Rattle.score.specs.Less.{less_of};
 ghost use Rattle.probe_pick.specs.Scoring.{model_of, below_of};
 
-use score::Less;
 use sheet::Model;
 
 #[unsafe(no_mangle)]
@@ -31,17 +29,7 @@ pub extern "C" fn probe_squared_residuals(
     ensures value { result ≡ beyond_found counting marks.now (model_of h0 h1 h2 h3 h4 h5 h6 h7 h8) squares.old }
     ensures squares_after { squares.new ≡ filled (squares_of ratio marks.now (model_of h0 h1 h2 h3 h4 h5 h6 h7 h8)) squares.old }
 {
-    let h = Model {
-        h0,
-        h1,
-        h2,
-        h3,
-        h4,
-        h5,
-        h6,
-        h7,
-        h8,
-    };
+    let h = Model::from([h0, h1, h2, h3, h4, h5, h6, h7, h8]);
     measure::squared_residuals(h, ratio, marks, squares, counting)
 }
 
@@ -59,21 +47,12 @@ pub extern "C" fn probe_rms(thresh: f64, squares: &[f64], count: u32) -> f64
     score::rms(thresh, squares, count)
 }
 
-fn none() -> f64
-    ensures { result ≡ nan }
-{
-    0.0 / 0.0
-}
-
 // A NaN where it is not below: no root mean square is one.
 #[unsafe(no_mangle)]
 pub extern "C" fn probe_rms_if_less(thresh: f64, squares: &[f64], count: u32, best: f64) -> f64
     ensures { result ≡ below_of (less_of (rms_of count (squares_in thresh (map root_of squares.now))) best) }
 {
-    match score::rms_if_less(thresh, squares, count, best) {
-        Less::Below(rms) => rms,
-        Less::NotBelow => none(),
-    }
+    score::rms_if_less(thresh, squares, count, best).unwrap_or(f64::NAN)
 }
 
 #[unsafe(no_mangle)]

@@ -3,9 +3,9 @@ ghost use Rattle.std.specs.Prelude.{◌≡◌, ◌≤◌, length};
 ghost use Rattle.book.specs.Book.{held};
 ghost use Rattle.rule.specs.Lists.{filled};
 ghost use Rattle.pick.specs.Run.{view_winner, view_best, view_state, view_outcome, view_tried};
-ghost use Rattle.probe_pick.specs.Words.{bit, option_words, ratio_word, made_words, count_words, winner_words, run_words, outcome_words, tried_words};
+ghost use Rattle.probe_pick.specs.Words.{option_words, ratio_word, made_words, count_words, winner_words, run_words, outcome_words, tried_words};
 
-use pick::{Best, Outcome, State, Tried, Winner};
+use pick::{Outcome, State, Tried, Winner};
 use records::RansacOptions;
 
 // Puts words into the front of `part`, if it has room for them.
@@ -13,20 +13,9 @@ pub(crate) fn put(words: &[u64], part: &mut [u64])
     ensures { part.new ≡ filled words.now part.old }
 {
     let n = words.len();
-    if part.len() < n {
-        return;
+    if n <= part.len() {
+        part[..n].copy_from_slice(words);
     }
-    let mut i = 0;
-    while i < n {
-        part[i] = words[i];
-        i += 1;
-    }
-}
-
-fn bit(b: bool) -> u64
-    ensures { result ≡ bit b }
-{
-    if b { 1 } else { 0 }
 }
 
 fn option_words(o: RansacOptions) -> [u64; 5]
@@ -37,7 +26,7 @@ fn option_words(o: RansacOptions) -> [u64; 5]
         fields::bits_of(o.confidence),
         o.max_iters as u64,
         o.min_inliers as u64,
-        bit(o.refit),
+        u64::from(o.refit),
     ]
 }
 
@@ -59,43 +48,44 @@ pub(crate) fn made_words(o: RansacOptions) -> [u64; 6]
 fn count_words(s: State) -> [u64; 6]
     ensures { result ≡ count_words (view_state s) }
 {
+    let c = s.counts;
     [
         s.n as u64,
-        s.read as u64,
-        s.empty as u64,
-        s.few as u64,
-        s.scored as u64,
-        s.bound as u64,
+        c.read as u64,
+        c.empty as u64,
+        c.few as u64,
+        c.scored as u64,
+        c.bound as u64,
     ]
 }
 
 fn held_words(w: Winner) -> [u64; 13]
     ensures { result ≡ winner_words (held (view_winner w)) }
 {
-    let h = w.model;
+    let h = w.model.numbers();
     [
         1,
         w.count as u64,
         w.number as u64,
         fields::bits_of(w.rms),
-        fields::bits_of(h.h0),
-        fields::bits_of(h.h1),
-        fields::bits_of(h.h2),
-        fields::bits_of(h.h3),
-        fields::bits_of(h.h4),
-        fields::bits_of(h.h5),
-        fields::bits_of(h.h6),
-        fields::bits_of(h.h7),
-        fields::bits_of(h.h8),
+        fields::bits_of(h[0]),
+        fields::bits_of(h[1]),
+        fields::bits_of(h[2]),
+        fields::bits_of(h[3]),
+        fields::bits_of(h[4]),
+        fields::bits_of(h[5]),
+        fields::bits_of(h[6]),
+        fields::bits_of(h[7]),
+        fields::bits_of(h[8]),
     ]
 }
 
-fn winner_words(best: Best) -> [u64; 13]
+fn winner_words(best: Option<Winner>) -> [u64; 13]
     ensures { result ≡ winner_words (view_best best) }
 {
     match best {
-        Best::Nothing => [0u64; 13],
-        Best::Held(w) => held_words(w),
+        None => [0u64; 13],
+        Some(w) => held_words(w),
     }
 }
 
@@ -120,7 +110,7 @@ fn outcome_words(outcome: Outcome) -> [u64; 3]
     ensures { result ≡ outcome_words (view_outcome outcome) }
 {
     match outcome {
-        Outcome::Refused(k) => [0, k as u64, 0],
+        Outcome::Refused(refusal) => [0, refusal as u64, 0],
         Outcome::Empty => [1, 0, 0],
         Outcome::Few(count) => [2, count as u64, 0],
         Outcome::Held(count, rms) => [3, count as u64, fields::bits_of(rms)],

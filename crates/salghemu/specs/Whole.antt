@@ -1,7 +1,9 @@
 -- Document 01, 'Winner' and 'Refusals': the whole run over byte slices. The opening's order, a trial list length not a multiple of 152 as 1, 9, then trials,
 -- then 11. The trials are the book's, to the first refused, the bound or the end; those beyond aren't looked at.
-use Rattle.std.specs.Prelude.{◌≡◌, not, ◌||◌, List, [], ◌∷◌, ◌++◌, map, ℕ, zero, suc, ◌*◌, ◌%◌, ltb, eqb, length, drop, Float}
+use Rattle.std.specs.Prelude.{◌≡◌, not, ◌||◌, List, [], ◌∷◌, ◌++◌, map, ℕ, zero, suc, ◌*◌, ◌%◌, ltb, eqb, length, drop, Result, Ok, Err, Float}
 use Rattle.rule.specs.Refusal.{RECORD, SHAPE, STOPS, NONE}
+use Rattle.rule.specs.Refusal as Refused
+use Rattle.rule.specs.declared.Refusal.{Refusal}
 use Rattle.rule.specs.Answer.{Answer, refused, gives}
 use Rattle.rule.specs.Order.{Test, first_failed, room}
 use Rattle.rule.specs.Lists.{parts_of, for_each}
@@ -19,7 +21,7 @@ use Rattle.measure.specs.Distances.{distances_of}
 use Rattle.score.specs.Places.{indices_in}
 use Rattle.judge.specs.Judging.{rule_of, Call, judge_of}
 use Rattle.pick.specs.Run.{book_of}
-use Rattle.salghemu.specs.declared.Ran.{Ran}
+use Rattle.pick.specs.declared.run_state.State.{State}
 
 -- what is handed in: bytes, and the lengths of what is lent
 pub record Files : Type 0 where
@@ -134,7 +136,7 @@ pub record Gave (a : Answer (Winner Model)) (o : RansacOptions) (numbers : List 
   pub winner_is : winner' ≡ written winner_bytes a winner
   pub indices_is : indices' ≡ written (λ w. index_bytes o numbers w.model) a indices
 
--- how the trials ended, as the program has it
-unfoldable pub view_ran : Ran → Stopped Model
-view_ran (Ran.Stopped s) = stopped (book_of s)
-view_ran (Ran.Broken k) = broken k
+-- how the trials ended, as the program has it: with the last state, or at a refused trial
+abbrev pub view_ran : Result State Refusal → Stopped Model
+view_ran (Ok s) = stopped (book_of s)
+view_ran (Err e) = broken (Refused.number_of e)

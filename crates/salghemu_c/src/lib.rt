@@ -1,5 +1,5 @@
-// What C calls: the whole run and the writers of `salghemu`, exported under their names with the same
-// promises. Each only calls through.
+// What C calls: the whole run of `salghemu` and the writers of `writer`, exported under their names with
+// the same promises. A refusal goes out by its number, and 0 says that there is none.
 #![tactic(auto)]
 
 ghost use Rattle.std.specs.Prelude.{◌≡◌, length};
@@ -21,7 +21,7 @@ pub extern "C" fn salghemu_run(
 ) -> u32
     ensures { Gave (run_answer (record { options = options.now; marks = marks.now; stops = stops.now; trials = trials.now }) (length winner.old) (length indices.old)) (options_of options.now) (numbers_in marks.now) winner.old indices.old result winner.new indices.new }
 {
-    salghemu::salghemu_run(options, marks, stops, trials, winner, indices)
+    rule::number(salghemu::salghemu_run(options, marks, stops, trials, winner, indices))
 }
 
 #[unsafe(no_mangle)]
@@ -37,7 +37,7 @@ pub extern "C" fn salghemu_write_options(
     ensures value { result ≡ writer_answer options_format (record { thresh = thresh; confidence = confidence; max_iters = max_iters; min_inliers = min_inliers; refit_mark = refit_mark; ratio = ratio }) out.old }
     ensures out_after { out.new ≡ written options_format (record { thresh = thresh; confidence = confidence; max_iters = max_iters; min_inliers = min_inliers; refit_mark = refit_mark; ratio = ratio }) out.old }
 {
-    salghemu::salghemu_write_options(
+    rule::number(writer::write_options(
         thresh,
         confidence,
         max_iters,
@@ -45,7 +45,7 @@ pub extern "C" fn salghemu_write_options(
         refit_mark,
         ratio,
         out,
-    )
+    ))
 }
 
 #[unsafe(no_mangle)]
@@ -53,7 +53,7 @@ pub extern "C" fn salghemu_write_mark(x: f64, y: f64, u: f64, v: f64, out: &mut 
     ensures value { result ≡ writer_answer mark_format (record { x = x; y = y; u = u; v = v }) out.old }
     ensures out_after { out.new ≡ written mark_format (record { x = x; y = y; u = u; v = v }) out.old }
 {
-    salghemu::salghemu_write_mark(x, y, u, v, out)
+    rule::number(writer::write_mark(x, y, u, v, out))
 }
 
 #[unsafe(no_mangle)]
@@ -67,5 +67,5 @@ pub extern "C" fn salghemu_write_trial(
     ensures value { result ≡ writer_answer trial_format (record { fit_mark = fit_mark; refit_mark = refit_mark; fit = fit.now; refit = refit.now }) out.old }
     ensures out_after { out.new ≡ written trial_format (record { fit_mark = fit_mark; refit_mark = refit_mark; fit = fit.now; refit = refit.now }) out.old }
 {
-    salghemu::salghemu_write_trial(fit_mark, refit_mark, fit, refit, out)
+    rule::number(writer::write_trial(fit_mark, refit_mark, fit, refit, out))
 }
