@@ -4,7 +4,7 @@
 // order 3. Those of the picker are run by the comparison with the Rust.
 #![tactic(auto)]
 
-ghost use Rattle.std.specs.Prelude.{◌≤◌};
+ghost use Rattle.std.specs.Prelude.{◌≡◌, ◌≤◌, length};
 
 use linalg::Normalized;
 use numbers::Quadratic;
@@ -243,14 +243,18 @@ fn at(x: f64, y: f64, u: f64, v: f64) -> Mark {
 }
 
 // Four marks as a list of numbers.
-fn list(a: Mark, b: Mark, c: Mark, d: Mark) -> [f64; 16] {
+fn list(a: Mark, b: Mark, c: Mark, d: Mark) -> [f64; 16]
+    ensures { 16 ≡ length result }
+{
     [
         a.x, a.y, a.u, a.v, b.x, b.y, b.u, b.v, c.x, c.y, c.u, c.v, d.x, d.y, d.u, d.v,
     ]
 }
 
 // On a line on the sheet, and not as pixels.
-fn sheet_line() -> [f64; 16] {
+fn sheet_line() -> [f64; 16]
+    ensures { 16 ≡ length result }
+{
     list(
         at(0.0, 0.0, 0.0, 0.0),
         at(1.0, 0.0, 1.0, 1.0),
@@ -269,23 +273,27 @@ fn lines(rt: &impl Print) -> io::Result<()> {
     );
     let straight = sheet_line();
     let wide = list(origin, at(2e9, 0.0, 0.0, 0.0), origin, origin);
+    let three = &nearly[..12];
+    let two = &straight[..8];
+    let none = &straight[..0];
+    let uneven = &straight[..7];
     show_collinear(
         rt,
         "collinear (0,0) (0.0005,0) (0,0.001):",
-        &nearly[..12],
+        three,
         Side::Sheet,
     )?;
-    show_collinear(rt, "collinear two points:", &straight[..8], Side::Sheet)?;
-    show_collinear(rt, "collinear no points:", &straight[..0], Side::Sheet)?;
+    show_collinear(rt, "collinear two points:", two, Side::Sheet)?;
+    show_collinear(rt, "collinear no points:", none, Side::Sheet)?;
     show_collinear(
         rt,
         "collinear (0,0) (1,0) (2,0) (3,0):",
-        &straight[..16],
+        &straight,
         Side::Sheet,
     )?;
-    show_collinear(rt, "collinear their pixels:", &straight[..16], Side::Pixel)?;
-    show_collinear(rt, "collinear 7 numbers:", &straight[..7], Side::Sheet)?;
-    show_collinear(rt, "collinear x = 2e9:", &wide[..16], Side::Pixel)
+    show_collinear(rt, "collinear their pixels:", &straight, Side::Pixel)?;
+    show_collinear(rt, "collinear 7 numbers:", uneven, Side::Sheet)?;
+    show_collinear(rt, "collinear x = 2e9:", &wide, Side::Pixel)
 }
 
 fn normalisings(rt: &impl Print) -> io::Result<()> {
@@ -302,30 +310,21 @@ fn normalisings(rt: &impl Print) -> io::Result<()> {
         origin,
         origin,
     );
-    show_normalized(rt, "normalising (1,1) (-1,-1):", &pair[..8], Side::Sheet, 4)?;
-    show_normalized(
-        rt,
-        "normalising (-0,1) (-0,3):",
-        &signed[..8],
-        Side::Sheet,
-        5,
-    )?;
-    show_normalized(rt, "normalising two at (0,0):", &pair[..8], Side::Pixel, 4)?;
+    let two = &pair[..8];
+    let two_signed = &signed[..8];
+    let none = &pair[..0];
+    show_normalized(rt, "normalising (1,1) (-1,-1):", two, Side::Sheet, 4)?;
+    show_normalized(rt, "normalising (-0,1) (-0,3):", two_signed, Side::Sheet, 5)?;
+    show_normalized(rt, "normalising two at (0,0):", two, Side::Pixel, 4)?;
     show_normalized(
         rt,
         "normalising (0,0) (2^-51,0):",
-        &signed[..8],
+        two_signed,
         Side::Pixel,
         4,
     )?;
-    show_normalized(rt, "normalising no points:", &pair[..0], Side::Sheet, 4)?;
-    show_normalized(
-        rt,
-        "normalising two points, 3 places:",
-        &pair[..8],
-        Side::Sheet,
-        3,
-    )
+    show_normalized(rt, "normalising no points:", none, Side::Sheet, 4)?;
+    show_normalized(rt, "normalising two points, 3 places:", two, Side::Sheet, 3)
 }
 
 // The square around the origin: its normalised points are its own.
@@ -343,16 +342,12 @@ fn rows(rt: &impl Print) -> io::Result<()> {
         at(0.0, 2.0, 2.0, 0.0),
         at(3.0, 3.0, 3.0, 0.0),
     );
-    show_rows(rt, "rows of four marks, 71 places:", &square[..16], 71)?;
-    show_rows(rt, "rows of three marks:", &square[..12], 72)?;
-    show_rows(rt, "rows, sheet on a line:", &sheet[..16], 72)?;
-    show_rows(rt, "rows, pixels on a line:", &pixel[..16], 72)?;
-    show_rows(
-        rt,
-        "rows of (1,1), the first of four marks:",
-        &square[..16],
-        72,
-    )
+    let three = &square[..12];
+    show_rows(rt, "rows of four marks, 71 places:", &square, 71)?;
+    show_rows(rt, "rows of three marks:", three, 72)?;
+    show_rows(rt, "rows, sheet on a line:", &sheet, 72)?;
+    show_rows(rt, "rows, pixels on a line:", &pixel, 72)?;
+    show_rows(rt, "rows of (1,1), the first of four marks:", &square, 72)
 }
 
 // The identity but for h5, h6, h7 and h8.

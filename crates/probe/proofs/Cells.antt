@@ -1,22 +1,28 @@
 -- The entry of a 3 by 3 matrix at a place, row by row. Assumes nothing.
-use mathlib.Core.Path.{◌≡◌, refl, ap, ◌∙◌}
+use mathlib.Core.Path.{◌≡◌, refl, sym, ap, subst, ◌∙◌}
+use Rattle.std.specs.Prelude.{Result, Ok, Err}
 use mathlib.Core.List.{List, [], ◌∷◌}
 use Prim.Native.Nat.{ℕ, zero, suc, ◌/◌, ◌%◌, ◌≤◌, ◌<◌}
 use native.Mathlib.Omega.{arith}
 use lib.ListN.{get_or}
 use lib.Ieee.{Float, nan}
-use Rattle.rule.specs.Order.{if_passed}
 use Rattle.rule.specs.Lists.{for_each}
+use Rattle.rule.specs.declared.Refusal.{Refusal}
+use Rattle.rule.specs.Refusal.{number_of}
+use Rattle.rule.specs.Answer.{answered, refusal_in}
+use Rattle.rule.specs.Order.{decided, if_passed}
 use Rattle.rule.proofs.Lists.{past_end}
+use Rattle.rule.proofs.Order.{decided-gives, decided-refused, kept}
+use Rattle.rule.proofs.Views.{number_above_0}
+use Rattle.numbers.specs.Constants.{zero'}
 use Rattle.sheet.specs.Marks.{points}
 use Rattle.sheet.specs.declared.marks.Side.{Side}
-use Rattle.linalg.specs.Normalize.{change_of, matrix_of, no_matrix, Normalizing}
+use Rattle.linalg.specs.Normalize.{similarity_of, matrix_of, normalized_list, normalize_answer, Normalizing}
 use Rattle.linalg.specs.declared.Change.{Change}
 use Rattle.linalg.specs.declared.Normalized.{Normalized}
+use Rattle.probe.specs.Plain.{no_matrix, Written, MatrixEntry}
 use Rattle.linalg.specs.declared.Row.{Row}
 use Rattle.probe.specs.Flat.{entry_of}
-use Rattle.probe.specs.Plain.{MatrixEntry}
-use Rattle.probe.proofs.Sides.{written}
 
 -- the program's way: the row, then the place in it
 abbrev pub in_rows : List Row → ℕ → Float
@@ -27,7 +33,7 @@ module _ (a b c d e f g h i : Float) where
   nine = record { cells = a ∷ b ∷ c ∷ [] } ∷ record { cells = d ∷ e ∷ f ∷ [] } ∷ record { cells = g ∷ h ∷ i ∷ [] } ∷ []
 
   inside : (place : ℕ) → place < 9 → in_rows nine place ≡ entry_of place nine
-  unfolding entry_of for_each
+  unfolding for_each
   inside zero k = refl
   inside (suc zero) k = refl
   inside (suc (suc zero)) k = refl
@@ -40,27 +46,62 @@ module _ (a b c d e f g h i : Float) where
   inside (suc (suc (suc (suc (suc (suc (suc (suc (suc place))))))))) k = absurd (omega (arith, k))
 
   beyond : (place : ℕ) → 9 ≤ place → nan ≡ entry_of place nine
-  unfolding entry_of for_each
+  unfolding for_each
   beyond place k = past_end (a ∷ b ∷ c ∷ d ∷ e ∷ f ∷ g ∷ h ∷ i ∷ []) place nan k
 
+zero_inside : (place : ℕ) → place < 9 → zero' ≡ entry_of place no_matrix
+unfolding for_each
+zero_inside zero k = refl
+zero_inside (suc zero) k = refl
+zero_inside (suc (suc zero)) k = refl
+zero_inside (suc (suc (suc zero))) k = refl
+zero_inside (suc (suc (suc (suc zero)))) k = refl
+zero_inside (suc (suc (suc (suc (suc zero))))) k = refl
+zero_inside (suc (suc (suc (suc (suc (suc zero)))))) k = refl
+zero_inside (suc (suc (suc (suc (suc (suc (suc zero))))))) k = refl
+zero_inside (suc (suc (suc (suc (suc (suc (suc (suc zero)))))))) k = refl
+zero_inside (suc (suc (suc (suc (suc (suc (suc (suc (suc place))))))))) k = absurd (omega (arith, k))
+
 -- the matrix of a change, or zeros
-cell-inside : (k : ℕ) (c : Change) (place : ℕ) → place < 9 → in_rows (if_passed k (matrix_of c) no_matrix) place ≡ entry_of place (if_passed k (matrix_of c) no_matrix)
-unfolding if_passed matrix_of no_matrix
-cell-inside zero c place h = inside _ _ _ _ _ _ _ _ _ place h
-cell-inside (suc k) c place h = inside _ _ _ _ _ _ _ _ _ place h
+of_change : (c : Change) (place : ℕ) → place < 9 → in_rows (matrix_of c) place ≡ entry_of place (matrix_of c)
+unfolding matrix_of
+of_change c place h = inside _ _ _ _ _ _ _ _ _ place h
 
-cell-beyond : (k : ℕ) (c : Change) (place : ℕ) → 9 ≤ place → nan ≡ entry_of place (if_passed k (matrix_of c) no_matrix)
-unfolding if_passed matrix_of no_matrix
-cell-beyond zero c place h = beyond _ _ _ _ _ _ _ _ _ place h
-cell-beyond (suc k) c place h = beyond _ _ _ _ _ _ _ _ _ place h
+past_both : (k : ℕ) (c : Change) (place : ℕ) → 9 ≤ place → nan ≡ entry_of place (if_passed k (matrix_of c) no_matrix)
+unfolding if_passed matrix_of
+past_both zero c place h = beyond _ _ _ _ _ _ _ _ _ place h
+past_both (suc k) c place h = beyond _ _ _ _ _ _ _ _ _ place h
 
-module _ {l entry exit : List Float} {s t : Side} {answer : Normalized} (side : s ≡ t) (n : Normalizing l s entry answer exit) (place : ℕ) where
-  matrix_is : answer.matrix ≡ if_passed answer.refusal (matrix_of (change_of (points t l))) no_matrix
-  matrix_is = n.matrix ∙ ap (λ u. if_passed answer.refusal (matrix_of (change_of (points u l))) no_matrix) side
+-- the number by which a decided call is refused
+number_decided : {A : Type 0} (r : Result A Refusal) (k : ℕ) (a : A) → answered r ≡ decided k a → refusal_in r ≡ k
+number_decided (Ok b) k a h = sym (decided-gives k h).0
+number_decided (Err e) k a h = (decided-refused k a h).0
 
-  pub entry_inside : place < 9 → MatrixEntry l t entry place (in_rows answer.matrix place) exit
-  entry_inside h =
-      record { refusal = answer.refusal; left = written side n; cell = ap (λ rows. in_rows rows place) matrix_is ∙ cell-inside answer.refusal _ place h }
+module _ {l entry exit : List Float} {s t : Side} (side : s ≡ t) where
+  of_side : {answer : Result Normalized Refusal} → Normalizing l s entry answer exit → Normalizing l t entry answer exit
+  of_side {answer} n = subst (λ u. Normalizing l u entry answer exit) side n
 
-  pub entry_beyond : {r : Float} → 9 ≤ place → r ≡ nan → MatrixEntry l t entry place r exit
-  entry_beyond h e = record { refusal = answer.refusal; left = written side n; cell = e ∙ cell-beyond answer.refusal _ place h }
+  pub written : {answer : Result Normalized Refusal} → Normalizing l s entry answer exit → Written l t entry (refusal_in answer) exit
+  unfolding normalize_answer
+  written {answer} n =
+      let m = of_side n in
+      let number = number_decided answer _ _ m.told in
+      record { number = number; list = m.list ∙ ap (λ k. if_passed k (normalized_list (similarity_of (points t l)) (points t l) entry) entry) (sym number) }
+
+  module _ (place : ℕ) where
+    pub entry_beyond : {answer : Result Normalized Refusal} {r : Float} → Normalizing l s entry answer exit → 9 ≤ place → r ≡ nan → MatrixEntry l t entry place r exit
+    entry_beyond {answer} n h e = record { refusal = refusal_in answer; left = written n; cell = e ∙ past_both (refusal_in answer) (similarity_of (points t l)) place h }
+
+    pub entry_inside : {answer : Normalized} → Normalizing l s entry (Ok answer) exit → place < 9 → MatrixEntry l t entry place (in_rows answer.matrix place) exit
+    unfolding normalize_answer if_passed
+    entry_inside n h =
+        let is = (decided-gives _ (of_side n).told).1 in
+        record { refusal = 0; left = written n; cell = ap (λ a. in_rows a.matrix place) is ∙ of_change (similarity_of (points t l)) place h }
+
+    pub entry_refused : {e : Refusal} → Normalizing l s entry (Err e) exit → place < 9 → MatrixEntry l t entry place zero' exit
+    entry_refused {e} n h =
+        record {
+          refusal = number_of e;
+          left = written n;
+          cell = zero_inside place h ∙ ap (entry_of place) (kept (number_of e) (matrix_of (similarity_of (points t l))) no_matrix (number_above_0 e));
+        }

@@ -1,3 +1,1 @@
-pub mod Places
-pub mod Sides
 pub mod Cells

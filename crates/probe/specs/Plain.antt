@@ -1,12 +1,16 @@
 -- A model, a mark and a point from plain numbers, and normalising without its matrix.
-use Rattle.std.specs.Prelude.{◌≡◌, List, ℕ, length, Float}
+use Rattle.std.specs.Prelude.{◌≡◌, List, [], ◌∷◌, ℕ, length, Float}
 use Rattle.rule.specs.Order.{first_failed, if_passed}
+use Rattle.numbers.specs.Constants.{zero'}
 use Rattle.sheet.specs.Marks.{points}
 use Rattle.sheet.specs.declared.marks.Mark.{Mark}
 use Rattle.sheet.specs.declared.marks.Point.{Point}
 use Rattle.sheet.specs.declared.marks.Side.{Side}
+use Rattle.sheet.specs.declared.marks.Side.TheVariants.{Sheet, Pixel}
 use Rattle.sheet.specs.declared.model.Model.{Model}
-use Rattle.linalg.specs.Normalize.{change_of, matrix_of, no_matrix, normalize_tests, normalized_list}
+use Rattle.linalg.specs.Normalize.{similarity_of, matrix_of, normalize_tests, normalized_list}
+use Rattle.linalg.specs.declared.Row.{Row}
+use Rattle.homography.specs.Rows.{rows_tests, rows_list}
 use Rattle.probe.specs.Flat.{entry_of}
 
 abbrev pub model_of : (h0 h1 h2 h3 h4 h5 h6 h7 h8 : Float) → Model
@@ -21,10 +25,23 @@ point_of x y = record { x = x; y = y }
 -- what normalising answers, but for the matrix, and leaves in the lent list
 pub record Written (l : List Float) (side : Side) (entry : List Float) (refusal : ℕ) (exit : List Float) : Type 0 where
   pub number : refusal ≡ first_failed (normalize_tests l side (length entry))
-  pub list : exit ≡ if_passed refusal (normalized_list (change_of (points side l)) (points side l) entry) entry
+  pub list : exit ≡ if_passed refusal (normalized_list (similarity_of (points side l)) (points side l) entry) entry
+
+-- the matrix of a refused call
+abbrev pub no_matrix : List Row
+no_matrix =
+    record { cells = zero' ∷ zero' ∷ zero' ∷ [] }
+    ∷ record { cells = zero' ∷ zero' ∷ zero' ∷ [] }
+    ∷ record { cells = zero' ∷ zero' ∷ zero' ∷ [] }
+    ∷ []
 
 -- the same, with the matrix's entry at a place instead of the number
 pub record MatrixEntry (l : List Float) (side : Side) (entry : List Float) (place : ℕ) (answer : Float) (exit : List Float) : Type 0 where
   pub refusal : ℕ
   pub left : Written l side entry refusal exit
-  pub cell : answer ≡ entry_of place (if_passed refusal (matrix_of (change_of (points side l))) no_matrix)
+  pub cell : answer ≡ entry_of place (if_passed refusal (matrix_of (similarity_of (points side l))) no_matrix)
+
+-- what the rows' entry answers, by its number, and leaves in the lent list
+pub record RowsTold (l entry : List Float) (refusal : ℕ) (exit : List Float) : Type 0 where
+  pub number : refusal ≡ first_failed (rows_tests l (length entry))
+  pub list : exit ≡ if_passed refusal (rows_list (similarity_of (points Sheet l)) (similarity_of (points Pixel l)) l entry) entry

@@ -1,14 +1,13 @@
 // The entries over marks for the comparison: lists as they are, a side and a place by number, and a
 // model and a mark as plain numbers.
 ghost use Rattle.std.specs.Prelude.{◌≡◌};
-ghost use Rattle.rule.specs.Answer.{told, gives, refusal_in};
+ghost use Rattle.rule.specs.Answer.{told, gives};
 ghost use Rattle.sheet.specs.Distance.{projection_of, measure_of, distance_answer, measured};
 ghost use Rattle.line.specs.Collinear.{collinear_answer};
-ghost use Rattle.homography.specs.Rows.{Rowing};
 ghost use Rattle.probe.specs.Flat.{measure_told, value_of, told_of, side_of, part_of};
-ghost use Rattle.probe.specs.Plain.{model_of, mark_of, point_of, Written, MatrixEntry};
+ghost use Rattle.probe.specs.Plain.{model_of, mark_of, point_of, Written, MatrixEntry, RowsTold};
 
-use crate::place_of;
+use crate::{none, place_of};
 use rule::Refusal;
 use sheet::{Mark, Model, Point, Points, Side};
 
@@ -39,7 +38,7 @@ pub extern "C" fn probe_normalize_matrix(
     let side = side_of(side);
     let answer = linalg::normalize_points_2d(Points { marks, side }, points);
     if place >= 9 {
-        return f64::NAN;
+        return none();
     }
     match answer {
         Ok(normalized) => {
@@ -63,7 +62,7 @@ pub extern "C" fn probe_points_are_collinear(marks: &[f64], side: u32) -> u32
 
 #[unsafe(no_mangle)]
 pub extern "C" fn probe_dlt_rows(marks: &[f64], rows: &mut [f64]) -> u32
-    ensures { Rowing marks.now rows.old result rows.new }
+    ensures { RowsTold marks.now rows.old result rows.new }
 {
     rule::number(homography::dlt_rows(marks, rows))
 }
@@ -88,7 +87,7 @@ fn value(answer: Result<Option<f64>, Refusal>) -> f64
 {
     match answer {
         Ok(Some(d)) => d,
-        _ => f64::NAN,
+        _ => none(),
     }
 }
 

@@ -14,13 +14,19 @@ ghost use Rattle.probe.specs.Flat.{refusal_of, count_of, place_of};
 
 use numbers::Quadratic;
 
+fn none() -> f64
+    ensures { result ≡ nan }
+{
+    f64::NAN
+}
+
 // The number at a place, a NaN where there is none.
 fn place_of(numbers: &[f64], place: u32) -> f64
     ensures { result ≡ get_or numbers.now place nan }
 {
     match numbers.get(place as usize) {
         Some(x) => *x,
-        None => f64::NAN,
+        None => none(),
     }
 }
 
@@ -64,9 +70,10 @@ pub extern "C" fn probe_quadratic_root(a: f64, b: f64, c: f64, place: u32) -> f6
     ensures { result ≡ place_of place (quadratic_answer a b c) }
 {
     match numbers::solve_quadratic_real(a, b, c) {
+        Ok(Quadratic::NoRoot) => none(),
         Ok(Quadratic::One(x)) => place_of(&[x], place),
         Ok(Quadratic::Two(x, y)) => place_of(&[x, y], place),
-        _ => f64::NAN,
+        Err(_) => none(),
     }
 }
 

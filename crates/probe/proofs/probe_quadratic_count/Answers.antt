@@ -1,21 +1,17 @@
 -- `probe::probe_quadratic_count` meets its contract. Assumes nothing.
-use Rattle.rule.proofs.Views.{by_case}
+use mathlib.Core.Path.{ap}
 use Rattle.numbers.specs.Quadratic.{view_quadratic}
 use Rattle.probe.specs.Flat.{count_of}
 use Rattle.probe.proofs.probe_quadratic_count.Goals as goal
 
-pub returns-in-NoRoot : goal.returns-in-NoRoot
-unfolding view_quadratic count_of
-returns-in-NoRoot c = by_case view_quadratic count_of c.in-NoRoot.is c.solve_quadratic_real-answer.ensures
+pub returns-in-Ok-NoRoot : goal.returns-in-Ok-NoRoot
+unfolding view_quadratic
+returns-in-Ok-NoRoot c = ap count_of (rw c.in-Ok-NoRoot.field-0-is at c.in-Ok-NoRoot.ensures)
 
-pub returns-in-One : goal.returns-in-One
-unfolding view_quadratic count_of
-returns-in-One c = by_case view_quadratic count_of c.in-One.is c.solve_quadratic_real-answer.ensures
+pub returns-in-Ok-One : goal.returns-in-Ok-One
+unfolding view_quadratic
+returns-in-Ok-One c = ap count_of (rw c.in-Ok-One.field-0-is at c.in-Ok-One.ensures)
 
-pub returns-in-Two : goal.returns-in-Two
-unfolding view_quadratic count_of
-returns-in-Two c = by_case view_quadratic count_of c.in-Two.is c.solve_quadratic_real-answer.ensures
-
-pub returns-in-Refused : goal.returns-in-Refused
-unfolding view_quadratic count_of
-returns-in-Refused c = by_case view_quadratic count_of c.in-Refused.is c.solve_quadratic_real-answer.ensures
+pub returns-in-Ok-Two : goal.returns-in-Ok-Two
+unfolding view_quadratic
+returns-in-Ok-Two c = ap count_of (rw c.in-Ok-Two.field-0-is at c.in-Ok-Two.ensures)
