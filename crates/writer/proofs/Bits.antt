@@ -1,14 +1,15 @@
 -- Doubles and their bits, in lists as they stand in the fields of a record. Assumes nothing.
 use mathlib.Core.Path.{◌≡◌, refl, sym, ap, ap₂, ◌∙◌}
-use mathlib.Core.Bool.{Bool, true, false, not, ◌&&◌, true≢false}
+use mathlib.Core.Bool.{true, false, not, true≢false}
 use mathlib.Core.List.{List, [], ◌∷◌, ◌++◌, map}
-use Prim.Native.Nat.{ℕ, zero, suc, ◌^◌, ◌<◌}
+use Prim.Native.Nat.{ℕ, zero, suc}
 use native.Mathlib.Omega.{arith}
 use lib.Dec.{T, eqb, eqb→eq}
-use lib.ListN.{length, get_or, replicate, length-map}
+use lib.ListN.{length, replicate, length-map}
 use lib.Ieee.{Float, nan, inf, fin, binary64, fits, of_bits, to_bits, is_nan, lt}
-use lib.Ieee.Fits.{and_i, and_l, and_r}
+use lib.Ieee.Fits.{and_l, and_r}
 use lib.Ieee.Bits.{of_bits-to_bits, to_bits-of_bits, to_bits-lt}
+use Rattle.std.proofs.lemmas.Bool.{and_parts}
 use Rattle.rule.specs.Lists.{every, for_each}
 use Rattle.rule.proofs.Tests.{is_test}
 use Rattle.numbers.specs.Constants.{zero'}
@@ -17,15 +18,6 @@ use Rattle.fields.specs.Fields.{bytes_of, double_bytes}
 use Rattle.fields.proofs.Packing.{Fit, more}
 
 -- ---- one number
-
-pub bits_below : (x : Float) → T (fits binary64 x) → to_bits binary64 x < 256 ^ 8
-bits_below x t = to_bits-lt binary64 x t
-
-pub number_back : (x : Float) → T (fits binary64 x) → of_bits binary64 (to_bits binary64 x) ≡ x
-number_back x t = of_bits-to_bits binary64 x t
-
-pub bits_back : (b : ℕ) → b < 256 ^ 8 → T (not (is_nan (of_bits binary64 b))) → to_bits binary64 (of_bits binary64 b) ≡ b
-bits_back b h t = to_bits-of_bits binary64 b h t
 
 pub finite_no_nan : (x : Float) → is_finite x ≡ true → T (not (is_nan x))
 unfolding is_finite is_nan
@@ -48,19 +40,15 @@ above_no_nan a (fin s m e) h = tt
 
 -- ---- lists
 
-pub both_true : (a b : Bool) → (a && b) ≡ true → (a ≡ true) × (b ≡ true)
-both_true true b h = (refl, h)
-both_true false b h = absurd (true≢false (sym h))
-
 pub numbers_back : (l : List Float) → T (every (fits binary64) l) → map (of_bits binary64) (map (to_bits binary64) l) ≡ l
 numbers_back [] t = refl
 numbers_back (x ∷ l) t =
-    ap₂ (λ y m. y ∷ m) (number_back x (and_l (fits binary64 x) (every (fits binary64) l) t)) (numbers_back l (and_r (fits binary64 x) (every (fits binary64) l) t))
+    ap₂ (λ y m. y ∷ m) (of_bits-to_bits binary64 x (and_l (fits binary64 x) (every (fits binary64) l) t)) (numbers_back l (and_r (fits binary64 x) (every (fits binary64) l) t))
 
 pub fields_fit : (l : List Float) → T (every (fits binary64) l) → {layout bits : List ℕ} → Fit layout bits → Fit (replicate (length l) 8 ++ layout) (map (to_bits binary64) l ++ bits)
 fields_fit [] t rest = rest
 fields_fit (x ∷ l) t rest =
-    more (bits_below x (and_l (fits binary64 x) (every (fits binary64) l) t)) (fields_fit l (and_r (fits binary64 x) (every (fits binary64) l) t) rest)
+    more (to_bits-lt binary64 x (and_l (fits binary64 x) (every (fits binary64) l) t)) (fields_fit l (and_r (fits binary64 x) (every (fits binary64) l) t) rest)
 
 pub bits_again : (n : ℕ) (bits : List ℕ) → Fit (replicate n 8) bits → all_finite (map (of_bits binary64) bits) ≡ true → map (to_bits binary64) (map (of_bits binary64) bits) ≡ bits
 unfolding all_finite
@@ -68,14 +56,14 @@ bits_again zero [] fit h = refl
 bits_again zero (b ∷ bits) fit h = elim fit [ ]
 bits_again (suc n) [] fit h = elim fit [ ]
 bits_again (suc n) (b ∷ bits) (more k fit) h =
-    let e = both_true (is_finite (of_bits binary64 b)) (every is_finite (map (of_bits binary64) bits)) h in
-    ap₂ (λ c cs. c ∷ cs) (bits_back b k (finite_no_nan (of_bits binary64 b) e.0)) (bits_again n bits fit e.1)
+    let e = and_parts (is_finite (of_bits binary64 b)) (every is_finite (map (of_bits binary64) bits)) h in
+    ap₂ (λ c cs. c ∷ cs) (to_bits-of_bits binary64 b k (finite_no_nan (of_bits binary64 b) e.0)) (bits_again n bits fit e.1)
 
 -- no bits set: the zero without a sign
 pub zeros : (bits : List ℕ) → every (λ b. eqb b 0) bits ≡ true → bits ≡ replicate (length bits) 0
 zeros [] h = refl
 zeros (b ∷ bits) h =
-    let e = both_true (eqb b 0) (every (λ c. eqb c 0) bits) h in
+    let e = and_parts (eqb b 0) (every (λ c. eqb c 0) bits) h in
     ap₂ (λ c cs. c ∷ cs) (eqb→eq b 0 (is_test (eqb b 0) e.0)) (zeros bits e.1)
 
 pub zero_numbers : (l : List Float) → T (every (fits binary64) l) → every (λ b. eqb b 0) (map (to_bits binary64) l) ≡ true → l ≡ replicate (length l) zero'
@@ -88,16 +76,7 @@ zero_numbers l t h = sym (numbers_back l t) ∙ ap (map (of_bits binary64)) (zer
 pub zeros_again : (n : ℕ) → map (to_bits binary64) (replicate n zero') ≡ replicate n 0
 unfolding is_finite of_bits
 zeros_again zero = refl
-zeros_again (suc n) = ap₂ (λ b m. b ∷ m) (bits_back 0 (omega arith) (finite_no_nan zero' refl)) (zeros_again n)
-
--- of a list, by its elements' tests
-pub every_map : {A B : Type 0} (test : B → Bool) (f : A → B) (l : List A) → every test (map f l) ≡ every (λ a. test (f a)) l
-every_map test f [] = refl
-every_map test f (a ∷ l) = ap (λ b. test (f a) && b) (every_map test f l)
-
-pub by_places : {A : Type 0} (test : A → Bool) (l : List A) (d : A) → ((i : ℕ) → T (test (get_or l i d))) → T (every test l)
-by_places test [] d h = tt
-by_places test (a ∷ l) d h = and_i (test a) (every test l) (h zero) (by_places test l d (λ i. h (suc i)))
+zeros_again (suc n) = ap₂ (λ b m. b ∷ m) (to_bits-of_bits binary64 0 (omega arith) (finite_no_nan zero' refl)) (zeros_again n)
 
 -- the bytes of their bits are theirs
 pub bits-written : (l : List Float) → for_each (bytes_of 8) (map (to_bits binary64) l) ≡ for_each double_bytes l

@@ -1,24 +1,24 @@
 -- What is promised of a reader and a writer with one format, from what their format keeps: fields that hold the numbers, and numbers that come back from
 -- the fields. Assumes nothing.
 use mathlib.Core.Path.{◌≡◌, refl, sym, ap, ◌∙◌}
-use mathlib.Core.List.{List, [], ◌∷◌, ◌++◌}
+use mathlib.Core.List.{List, ◌∷◌, ◌++◌}
 use Prim.Native.Nat.{ℕ, zero, suc, ◌≤◌}
 use native.Mathlib.Omega.{arith}
-use borrow.Author.Tests.{not-false, eq-eqb}
+use borrow.Author.Tests.{not-false, eq-eqb, le-ltb}
 use lib.Dec.{T, ltb, eqb, eqb→eq}
 use lib.ListN.{length, take, drop}
 use Rattle.rule.specs.Refusal.{ROOM}
 use Rattle.rule.specs.Answer.{refused, gives}
-use Rattle.rule.specs.Order.{first_failed, decided, room}
+use Rattle.rule.specs.Order.{first_failed, decided}
 use Rattle.rule.specs.Lists.{filled}
 use Rattle.rule.proofs.Tests.{is_test}
-use Rattle.rule.proofs.Order.{numbered, all_passed, none_failed, numbered_append, first_passed, fits_room, decided-none, decided_some}
+use Rattle.rule.proofs.Order.{numbered, all_passed, numbered_append, first_passed, decided-none, decided_some}
 use Rattle.rule.proofs.Lists.{filled_is, filled_front}
 use Rattle.fields.specs.Fields.{all_bytes}
 use Rattle.fields.specs.Packing.{size_of, unpacked, packed}
 use Rattle.fields.proofs.Packing.{Fit, packed_size, unpacked-packed, unpacked-fit, packed-unpacked}
-use Rattle.writer.specs.Format.{Format, sized, reads, as_numbers, numbers_read, record_of, writer_tests, writer_answer, written, Faithful}
-use Rattle.writer.proofs.Answers.{turned_down, wrote, failed_by}
+use Rattle.writer.specs.Format.{Format, sized, reads, as_numbers, numbers_read, record_of, writer_answer, written, Faithful}
+use Rattle.writer.proofs.Answers.{answer_by, accepted, by_number, turned_down, answer_is, exit_is}
 
 -- what a format keeps
 pub record Laws {N A : Type 0} (f : Format N A) : Type 0 where
@@ -72,17 +72,24 @@ module _ {N A : Type 0} (f : Format N A) (laws : Laws f) where
       ap (as_numbers f.numbers) (record_read n held ∙ sym (decided-none (f.value (f.fields n)) (sym e)))
       ∙ ap gives (laws.back n held e)
 
+  -- where it is accepted, no test of the numbers failed, there is room, and the record is left
+  taken : (n : N) (entry : List ℕ) → writer_answer f n entry ≡ 0 → (first_failed (f.asks n ++ f.tests (f.fields n)) ≡ 0) × (size ≤ length entry)
+  taken n entry e = accepted (first_failed (f.asks n ++ f.tests (f.fields n))) size (length entry) (sym (answer_is f n entry (above n)) ∙ e)
+
+  wrote : (n : N) (entry : List ℕ) → first_failed (f.asks n ++ f.tests (f.fields n)) ≡ 0 → size ≤ length entry
+      → (writer_answer f n entry ≡ 0) × (written f n entry ≡ filled (record_of f n) entry)
+  wrote n entry passed fits =
+      (answer_is f n entry (above n) ∙ rw (passed, le-ltb (length entry) size fits), exit_is f n entry (above n) ∙ rw (passed, le-ltb (length entry) size fits))
+
   back_read : (n : N) (entry : List ℕ) → f.Representable n → writer_answer f n entry ≡ 0 → numbers_read f (take size (written f n entry)) ≡ gives n
-  unfolding writer_answer writer_tests
   back_read n entry held e =
-      let ts = f.asks n ++ f.tests (f.fields n) in
-      let passed : first_failed ts ≡ 0 = none_failed ts (room size (length entry) ∷ []) e in
-      let fits : size ≤ length entry = fits_room size (length entry) (all_passed ts (room size (length entry) ∷ []) (above n) passed ∙ e) in
-      let w : written f n entry ≡ filled (record_of f n) entry = sym (wrote f n entry (above n) (sym passed) fits refl).1 in
+      let t = taken n entry e in
       let first : take size (written f n entry) ≡ record_of f n =
-      ap (take size) w ∙ ap (λ k. take k (filled (record_of f n) entry)) (sym (record_size n held)) ∙ filled_front (record_of f n) entry (rw (record_size n held) fits)
+      ap (take size) (wrote n entry t.0 t.1).1
+      ∙ ap (λ k. take k (filled (record_of f n) entry)) (sym (record_size n held))
+      ∙ filled_front (record_of f n) entry (rw (record_size n held) t.1)
       in
-      ap (numbers_read f) first ∙ numbers_of n held (same_tests n held ∙ passed)
+      ap (numbers_read f) first ∙ numbers_of n held (same_tests n held ∙ t.0)
 
   made_again : (l : List ℕ) (n : N) (entry : List ℕ) → T (all_bytes l) → numbers_read f l ≡ gives n → size ≤ length entry
       → (writer_answer f n entry ≡ 0) × (written f n entry ≡ l ++ drop (length l) entry)
@@ -99,21 +106,22 @@ module _ {N A : Type 0} (f : Format N A) (laws : Laws f) where
       sym (all_passed (f.asks n) (f.tests (f.fields n)) (laws.asks_above_0 n) asked) ∙ ap (λ fs. first_failed (f.tests fs)) here ∙ p.1
       in
       let packs : record_of f n ≡ l = ap (packed f.layout) here ∙ packed-unpacked f.layout l long bytes in
-      let w = wrote f n entry (above n) (sym passed) fits refl in
-      (sym w.0, sym w.1 ∙ ap (λ bs. filled bs entry) packs ∙ filled_is l entry (rw long fits))
+      let w = wrote n entry passed fits in
+      (w.0, w.1 ∙ ap (λ bs. filled bs entry) packs ∙ filled_is l entry (rw long fits))
 
   module _ (n : N) (entry : List ℕ) (k : ℕ) (held : f.Representable n) (some : k ≡ 0 → ⊥) where
     reader_too : (k ≡ ROOM → ⊥) → writer_answer f n entry ≡ k → numbers_read f (record_of f n) ≡ refused k
     unfolding numbers_read as_numbers
     reader_too not-room e =
-        let failed : first_failed (f.tests (f.fields n)) ≡ k = same_tests n held ∙ failed_by f n entry k (above n) e some not-room in
+        let by = by_number (first_failed (f.asks n ++ f.tests (f.fields n))) size (length entry) (sym (answer_is f n entry (above n)) ∙ e) some not-room in
+        let failed : first_failed (f.tests (f.fields n)) ≡ k = same_tests n held ∙ by in
         ap (as_numbers f.numbers) (record_read n held ∙ ap (λ j. decided j (f.value (f.fields n))) failed ∙ sym (decided_some k (f.value (f.fields n)) some))
 
     writer_too : numbers_read f (record_of f n) ≡ refused k → writer_answer f n entry ≡ k
     unfolding numbers_read
     writer_too e =
         let d = numbers-refused f.numbers (first_failed (f.tests (f.fields n))) (f.value (f.fields n)) (ap (as_numbers f.numbers) (sym (record_read n held)) ∙ e) in
-        sym (turned_down f n entry (sym d.0 ∙ same_tests n held) some).0
+        answer_is f n entry (above n) ∙ ap (λ j. answer_by j size (length entry)) (sym (same_tests n held) ∙ d.0) ∙ turned_down k size (length entry) some
 
   pub faithful : Faithful f
   faithful =

@@ -2,15 +2,13 @@
 use mathlib.Core.Path.{◌≡◌, refl, sym, ap, ◌∙◌}
 use mathlib.Core.Bool.{true, ◌&&◌}
 use mathlib.Core.List.{List, [], ◌∷◌, ◌++◌, map}
-use Prim.Native.Nat.{ℕ, ◌≤◌, ◌<◌}
+use Prim.Native.Nat.{ℕ}
 use borrow.Author.Tests.{not-false}
 use lib.Dec.{T}
 use lib.ListN.{length, get_or}
 use lib.Ieee.{Float, nan, binary64, fits, le, of_bits, to_bits}
-use lib.Ieee.Fits.{and_i}
-use Rattle.rule.specs.Refusal.{ROOM}
 use Rattle.rule.specs.Order.{first_failed}
-use Rattle.rule.specs.Lists.{every, for_each, filled}
+use Rattle.rule.specs.Lists.{every, for_each}
 use Rattle.rule.proofs.Order.{passes, numbered, first_passed}
 use Rattle.rule.proofs.Lists.{places_at, one_by_one}
 use Rattle.numbers.specs.Constants.{farthest}
@@ -20,27 +18,24 @@ use Rattle.sheet.specs.declared.marks.Mark.{Mark}
 use Rattle.fields.specs.Fields.{double_bytes}
 use Rattle.fields.specs.Packing.{size_of, packed}
 use Rattle.fields.proofs.Packing.{Fit, none, fit_length}
-use Rattle.writer.specs.Format.{record_of, Faithful}
 use Rattle.writer.specs.Formats.{mark_layout, mark_from, MarkRepresentable, mark_format}
-use Rattle.writer.proofs.Answers.{Wrote, turned_down, cramped, wrote}
-use Rattle.writer.proofs.Bits.{both_true, numbers_back, fields_fit, bits_again}
+use Rattle.writer.specs.Format.{record_of, writer_answer, written, Faithful}
+use Rattle.writer.proofs.Answers.{answer_by, exit_by, answer_is, exit_is}
+use Rattle.std.proofs.lemmas.Bool.{and_parts}
+use Rattle.writer.proofs.Bits.{numbers_back, fields_fit, bits_again}
 use Rattle.writer.proofs.Faith.{Laws, faithful}
 
--- ---- the ways out
+-- ---- the writer, by what its code asks
 
 pub mark_size : size_of mark_format.layout ≡ 32
 unfolding mark_format mark_layout size_of
 mark_size = refl
 
-pub mark_held : (m : Mark) → T (fits binary64 m.x) → T (fits binary64 m.y) → T (fits binary64 m.u) → T (fits binary64 m.v) → MarkRepresentable m
+mark_held : (m : Mark) → fits binary64 m.x ≡ true → fits binary64 m.y ≡ true → fits binary64 m.u ≡ true → fits binary64 m.v ≡ true → MarkRepresentable m
 unfolding MarkRepresentable mark_numbers
-mark_held m p q r s =
-    and_i (fits binary64 m.x) _ p (and_i (fits binary64 m.y) _ q (and_i (fits binary64 m.u) _ r (and_i (fits binary64 m.v) true s tt)))
+mark_held m p q r s = rw (p, q, r, s) tt
 
 module _ (m : Mark) where
-  abbrev tests : ℕ
-  tests = first_failed (mark_format.asks m ++ mark_format.tests (mark_format.fields m))
-
   -- a list of this mark alone has the right shape
   one_mark : first_failed (marks_tests (mark_numbers m)) ≡ first_failed (point (mark_numbers m) ∷ [])
   unfolding marks_tests shape mark_numbers
@@ -50,24 +45,20 @@ module _ (m : Mark) where
   unfolding record_of mark_format mark_layout packed double_bytes for_each mark_numbers
   packs = refl
 
-  module _ (entry : List ℕ) (held : MarkRepresentable m) {k : ℕ} (checked : k ≡ first_failed (marks_tests (mark_numbers m))) where
-    here : k ≡ tests
+  above : T (numbered (mark_format.asks m ++ mark_format.tests (mark_format.fields m)))
+  unfolding mark_format numbered point
+  above = tt
+
+  module _ (entry : List ℕ) (p : fits binary64 m.x ≡ true) (q : fits binary64 m.y ≡ true) (r : fits binary64 m.u ≡ true) (s : fits binary64 m.v ≡ true) where
+    here : first_failed (mark_format.asks m ++ mark_format.tests (mark_format.fields m)) ≡ first_failed (marks_tests (mark_numbers m))
     unfolding mark_format MarkRepresentable
-    here = checked ∙ one_mark ∙ ap (λ l. first_failed (point l ∷ [])) (sym (numbers_back (mark_numbers m) held))
+    here = ap (λ l. first_failed (point l ∷ [])) (numbers_back (mark_numbers m) (mark_held m p q r s)) ∙ sym one_mark
 
-    above : T (numbered (mark_format.asks m ++ mark_format.tests (mark_format.fields m)))
-    unfolding mark_format numbered point
-    above = tt
+    pub mark_answer : writer_answer mark_format m entry ≡ answer_by (first_failed (marks_tests (mark_numbers m))) 32 (length entry)
+    mark_answer = answer_is mark_format m entry above ∙ rw (here, mark_size)
 
-    pub mark_refused : (k ≡ 0 → ⊥) → Wrote mark_format m entry k entry
-    mark_refused h = turned_down mark_format m entry here h
-
-    module _ (passed : k ≡ 0) where
-      pub mark_no_room : length entry < 32 → Wrote mark_format m entry ROOM entry
-      mark_no_room h = cramped mark_format m entry above (sym passed ∙ here) (rw mark_size h)
-
-      pub mark_written : 32 ≤ length entry → {exit : List ℕ} → exit ≡ filled (for_each double_bytes (mark_numbers m)) entry → Wrote mark_format m entry 0 exit
-      mark_written h e = wrote mark_format m entry above (sym passed ∙ here) (rw mark_size h) (e ∙ ap (λ l. filled l entry) packs)
+    pub mark_exit : written mark_format m entry ≡ exit_by (first_failed (marks_tests (mark_numbers m))) 32 (for_each double_bytes (mark_numbers m)) entry
+    mark_exit = exit_is mark_format m entry above ∙ rw (here, mark_size, packs)
 
 -- ---- what the format keeps
 
@@ -75,8 +66,8 @@ pub within_finite : (limit : Float) (l : List Float) → all_within limit l ≡ 
 unfolding all_within all_finite within
 within_finite limit [] h = refl
 within_finite limit (x ∷ l) h =
-    let p = both_true (is_finite x && le (abs_of x) limit) (every (within limit) l) h in
-    rw ((both_true (is_finite x) (le (abs_of x) limit) p.0).0, within_finite limit l p.1)
+    let p = and_parts (is_finite x && le (abs_of x) limit) (every (within limit) l) h in
+    rw ((and_parts (is_finite x) (le (abs_of x) limit) p.0).0, within_finite limit l p.1)
 
 four : (bits : List ℕ) → length bits ≡ 4 → mark_numbers (mark_from bits) ≡ map (of_bits binary64) bits
 unfolding mark_numbers mark_from places_at

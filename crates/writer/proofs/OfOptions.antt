@@ -2,38 +2,41 @@
 use mathlib.Core.Path.{◌≡◌, refl, sym, ap, ◌∙◌}
 use mathlib.Core.Bool.{true, false, not, cond, ◌&&◌}
 use mathlib.Core.List.{List, [], ◌∷◌, ◌++◌}
-use Prim.Native.Nat.{ℕ, zero, suc, ◌-◌, ◌/◌, ◌^◌, ◌≤◌, ◌<◌}
+use Prim.Native.Nat.{ℕ, zero, suc, ◌^◌, ◌≤◌, ◌<◌}
 use native.Mathlib.Omega.{arith}
-use borrow.Author.Tests.{not-false, lt-leb, le-leb}
+use borrow.Author.Tests.{not-false}
 use borrow.Rule.Slice.PartMut.{mid_of, put_mid}
 use lib.Dec.{T, leb, eqb, leb→le, eqb→eq}
 use lib.ListN.{length, get_or, drop}
 use lib.Seq.{drop-cons}
+use lib.Ieee.Bits.{is_true, of_bits-to_bits, to_bits-lt, to_bits-of_bits}
+use native.Mathlib.Nat.{mod-eq_of_lt}
 use lib.Ieee.{binary64, fits, lt, le, of_bits}
-use Rattle.rule.specs.Refusal.{RECORD, ROOM}
+use Rattle.rule.specs.Refusal.{RECORD}
 use Rattle.rule.specs.Order.{first_failed}
 use Rattle.rule.specs.Lists.{for_each, filled}
 use Rattle.rule.proofs.Tests.{and_true, is_test}
 use Rattle.rule.proofs.Lists.{places_at, one_by_one}
-use Rattle.rule.proofs.Order.{stops, passes, numbered, first_passed}
+use Rattle.rule.proofs.Order.{numbered, first_passed}
 use Rattle.numbers.specs.Constants.{zero', one, least_ratio, greatest_ratio}
 use Rattle.numbers.specs.Finite.{is_finite}
 use Rattle.numbers.specs.Ratio.{ratio_accepted, ratio}
 use Rattle.fields.specs.Fields.{bytes_of, double_bytes}
 use Rattle.fields.specs.Packing.{size_of, packed}
-use Rattle.fields.proofs.Writing.{bytes_add, laid_none, laid_more, laid_all}
+use Rattle.fields.proofs.Writing.{laid_none, laid_more, laid_all}
 use Rattle.fields.proofs.Packing.{Fit, none, more, fit_length, fit_at}
 use Rattle.records.specs.Options.{short_layout, options_layout, options_sound, ratio_from, options_from, thresh, confidence, iters, options_tests}
 use Rattle.records.specs.declared.options.RansacOptions.{RansacOptions}
 use Rattle.records.proofs.Placed.{options_size}
 use Rattle.records.proofs.Formed.{options_above_0}
-use Rattle.writer.specs.Format.{record_of, Faithful}
+use Rattle.writer.specs.Format.{record_of, writer_answer, written, Faithful}
 use Rattle.writer.specs.Formats.{OptionNumbers, options_numbers, options_fields, OptionsRepresentable, options_asked, options_format}
-use Rattle.writer.proofs.Answers.{Wrote, turned_down, cramped, wrote}
-use Rattle.writer.proofs.Bits.{both_true, bits_below, number_back, bits_back, finite_no_nan, above_no_nan}
+use Rattle.writer.proofs.Answers.{answer_by, exit_by, answer_is, exit_is, laid_copy}
+use Rattle.std.proofs.lemmas.Bool.{and_parts}
+use Rattle.writer.proofs.Bits.{finite_no_nan, above_no_nan}
 use Rattle.writer.proofs.Faith.{Laws, faithful}
 
--- ---- the ways out
+-- ---- the writer, by what its code asks
 
 format_size : size_of options_format.layout ≡ 40
 unfolding options_format
@@ -51,75 +54,58 @@ options_with n =
       ratio = n.ratio;
     }
 
-module _ (n : OptionNumbers) where
-  sound : options_sound (options_fields n) ≡ leb n.refit_mark 1
-  unfolding options_sound options_fields
-  sound = and_true (leb n.refit_mark 1)
-
-  from_fields : T (fits binary64 n.thresh) → T (fits binary64 n.confidence) → T (fits binary64 n.ratio) → options_from (options_fields n) ≡ options_with n
-  unfolding options_from options_fields ratio_from
-  from_fields p q r = rw (number_back n.thresh p, number_back n.confidence q, number_back n.ratio r)
-
 above : (fields : List ℕ) → T (numbered (options_asked fields))
 unfolding options_asked numbered
 above fields = options_above_0 (options_from fields)
 
--- the mark and seven zero bytes are eight bytes of a number
-mark_filler : (mark : ℕ) → mark < 256 → bytes_of 8 mark ≡ bytes_of 1 mark ++ bytes_of 7 0
-mark_filler mark h =
-    let z : mark / 256 ≡ 0 = omega (arith, h) in
-    bytes_add 1 7 mark ∙ rw z
+module _ (n : OptionNumbers) (entry : List ℕ) (p : fits binary64 n.thresh ≡ true) (q : fits binary64 n.confidence ≡ true) (r : fits binary64 n.ratio ≡ true) where
+  from_fields : options_from (options_fields n) ≡ options_with n
+  unfolding options_from options_fields ratio_from
+  from_fields = rw (of_bits-to_bits binary64 n.thresh (rw p tt), of_bits-to_bits binary64 n.confidence (rw q tt), of_bits-to_bits binary64 n.ratio (rw r tt))
+
+  -- the number of the tests, the mark's first
+  abbrev checked : ℕ
+  checked = cond (not (leb n.refit_mark 1)) RECORD (first_failed (options_tests (options_with n)))
+
+  here : first_failed (options_format.asks n ++ options_format.tests (options_format.fields n)) ≡ checked
+  unfolding options_format options_asked options_sound options_fields first_failed
+  here = rw (and_true (leb n.refit_mark 1), from_fields)
+
+  above_there : T (numbered (options_format.asks n ++ options_format.tests (options_format.fields n)))
+  unfolding options_format
+  above_there = above (options_fields n)
+
+  pub options_answered : writer_answer options_format n entry ≡ answer_by checked 40 (length entry)
+  options_answered = answer_is options_format n entry above_there ∙ rw (here, format_size)
+
+  pub options_exit : written options_format n entry ≡ exit_by checked 40 (record_of options_format n) entry
+  options_exit = exit_is options_format n entry above_there ∙ rw (here, format_size)
+
+-- the mark and seven zero bytes, as they are copied
+mark_bytes : (mark : ℕ) → mark < 256 → mark ∷ 0 ∷ 0 ∷ 0 ∷ 0 ∷ 0 ∷ 0 ∷ 0 ∷ [] ≡ bytes_of 1 mark ++ bytes_of 7 0
+unfolding bytes_of
+mark_bytes mark h = rw (mod-eq_of_lt h)
 
 module _ (n : OptionNumbers) (entry : List ℕ) where
-  pub options_mark : 1 < n.refit_mark → Wrote options_format n entry RECORD entry
-  unfolding options_format options_asked
-  options_mark h =
-      turned_down options_format n entry
-      (stops (record { fails = not (options_sound (options_fields n)); number = RECORD }) (options_tests (options_from (options_fields n))) (rw (sound n, lt-leb n.refit_mark 1 h)))
-      (λ z. absurd (omega (arith, z)))
+  abbrev doubles : List ℕ
+  doubles = for_each double_bytes (n.thresh ∷ n.confidence ∷ [])
 
-  module _ (p : T (fits binary64 n.thresh)) (q : T (fits binary64 n.confidence)) (r : T (fits binary64 n.ratio)) (small : n.refit_mark ≤ 1) {k : ℕ} (checked : k ≡ first_failed (options_tests (options_with n))) where
-    here : k ≡ first_failed (options_format.asks n ++ options_format.tests (options_format.fields n))
-    unfolding options_format options_asked
-    here =
-        checked
-        ∙ ap (λ o. first_failed (options_tests o)) (sym (from_fields n p q r))
-        ∙ passes (record { fails = not (options_sound (options_fields n)); number = RECORD }) (options_tests (options_from (options_fields n))) (rw (sound n, le-leb n.refit_mark 1 small))
+  abbrev words : List ℕ
+  words = for_each (bytes_of 4) (n.max_iters ∷ n.min_inliers ∷ [])
 
-    all_above : T (numbered (options_format.asks n ++ options_format.tests (options_format.fields n)))
-    unfolding options_format
-    all_above = above (options_fields n)
-
-    pub options-refused : (k ≡ 0 → ⊥) → Wrote options_format n entry k entry
-    options-refused h = turned_down options_format n entry here h
-
-    module _ (passed : k ≡ 0) where
-      pub options_no_room : length entry < 40 → Wrote options_format n entry ROOM entry
-      options_no_room h = cramped options_format n entry all_above (sym passed ∙ here) (rw format_size h)
-
-      -- the five parts, one after the other
-      abbrev doubles : List ℕ
-      doubles = for_each double_bytes (n.thresh ∷ n.confidence ∷ [])
-
-      laid : [] ++ doubles ++ bytes_of 4 n.max_iters ++ bytes_of 4 n.min_inliers ++ (bytes_of 1 n.refit_mark ++ bytes_of 7 0) ++ double_bytes n.ratio ≡ record_of options_format n
-      unfolding record_of options_format short_layout options_layout options_fields packed bytes_of double_bytes for_each
-      laid = refl
-
-      pub options-written : 40 ≤ length entry → n.refit_mark < 256 → {a b c d e : List ℕ} → a ≡ filled doubles (mid_of 0 (16 - 0) entry)
-          → b ≡ filled (bytes_of 4 n.max_iters) (mid_of 16 (20 - 16) (put_mid 0 (16 - 0) entry a))
-          → c ≡ filled (bytes_of 4 n.min_inliers) (mid_of 20 (24 - 20) (put_mid 16 (20 - 16) (put_mid 0 (16 - 0) entry a) b))
-          → d ≡ filled (bytes_of 8 n.refit_mark) (mid_of 24 (32 - 24) (put_mid 20 (24 - 20) (put_mid 16 (20 - 16) (put_mid 0 (16 - 0) entry a) b) c))
-          → e ≡ filled (double_bytes n.ratio) (mid_of 32 (40 - 32) (put_mid 24 (32 - 24) (put_mid 20 (24 - 20) (put_mid 16 (20 - 16) (put_mid 0 (16 - 0) entry a) b) c) d))
-          → Wrote options_format n entry 0 (put_mid 32 (40 - 32) (put_mid 24 (32 - 24) (put_mid 20 (24 - 20) (put_mid 16 (20 - 16) (put_mid 0 (16 - 0) entry a) b) c) d) e)
-      unfolding bytes_of double_bytes for_each
-      options-written room byte e f g h i =
-          let one = laid_more entry (laid_none entry) (omega arith) 0 16 doubles refl refl (omega arith) e in
-          let two = laid_more entry one (omega arith) 16 20 (bytes_of 4 n.max_iters) refl refl (omega arith) f in
-          let three = laid_more entry two (omega arith) 20 24 (bytes_of 4 n.min_inliers) refl refl (omega arith) g in
-          let four = laid_more entry three (omega arith) 24 32 (bytes_of 8 n.refit_mark) refl refl (omega arith) h in
-          let five = laid_more entry four (omega arith) 32 40 (double_bytes n.ratio) refl refl room i in
-          let bytes = ap (λ mark. [] ++ doubles ++ bytes_of 4 n.max_iters ++ bytes_of 4 n.min_inliers ++ mark ++ double_bytes n.ratio) (mark_filler n.refit_mark byte) ∙ laid in
-          wrote options_format n entry all_above (sym passed ∙ here) (rw format_size room) (laid_all entry five room ∙ ap (λ l. filled l entry) bytes)
+  -- the four parts, one after the other
+  pub options_laid : 40 ≤ length entry → n.refit_mark < 256 → {a b c d : List ℕ} → a ≡ filled doubles (mid_of 0 16 entry)
+      → b ≡ filled words (mid_of 16 8 (put_mid 0 16 entry a))
+      → c ≡ n.refit_mark ∷ 0 ∷ 0 ∷ 0 ∷ 0 ∷ 0 ∷ 0 ∷ 0 ∷ []
+      → d ≡ filled (double_bytes n.ratio) (mid_of 32 8 (put_mid 24 8 (put_mid 16 8 (put_mid 0 16 entry a) b) c))
+      → put_mid 32 8 (put_mid 24 8 (put_mid 16 8 (put_mid 0 16 entry a) b) c) d ≡ filled (record_of options_format n) entry
+  unfolding bytes_of double_bytes for_each record_of options_format short_layout options_layout options_fields packed
+  options_laid room byte e f g h =
+      let one = laid_more entry (laid_none entry) (omega arith) 0 16 doubles refl refl (omega arith) e in
+      let two = laid_more entry one (omega arith) 16 24 words refl refl (omega arith) f in
+      let three = laid_copy entry two (omega arith) 24 32 (bytes_of 1 n.refit_mark ++ bytes_of 7 0) refl refl (omega arith) (g ∙ mark_bytes n.refit_mark byte) in
+      let four = laid_more entry three (omega arith) 32 40 (double_bytes n.ratio) refl refl room h in
+      laid_all entry four room
 
 -- ---- what the format keeps
 
@@ -141,11 +127,11 @@ module _ (f : List ℕ) (passed : first_failed (options_asked f) ≡ 0) where
 
   small_mark : leb (get_or f 4 0) 1 ≡ true
   unfolding options_sound
-  small_mark = (both_true (leb (get_or f 4 0) 1) (eqb (get_or f 5 0) 0) first.0).0
+  small_mark = (and_parts (leb (get_or f 4 0) 1) (eqb (get_or f 5 0) 0) first.0).0
 
   no_filler : get_or f 5 0 ≡ 0
   unfolding options_sound
-  no_filler = eqb→eq (get_or f 5 0) 0 (is_test (eqb (get_or f 5 0) 0) (both_true (leb (get_or f 4 0) 1) (eqb (get_or f 5 0) 0) first.0).1)
+  no_filler = eqb→eq (get_or f 5 0) 0 (is_test (eqb (get_or f 5 0) 0) (and_parts (leb (get_or f 4 0) 1) (eqb (get_or f 5 0) 0) first.0).1)
 
   abbrev o : RansacOptions
   o = options_from f
@@ -163,24 +149,24 @@ module _ (f : List ℕ) (passed : first_failed (options_asked f) ≡ 0) where
   finite_ratio =
       let r = ratio_from (drop 6 f) in
       let last = first_passed (ratio r) [] tt (first_passed (iters o) _ tt third.1).1 in
-      (both_true (is_finite r) (le least_ratio r && le r greatest_ratio) (not-false (is_finite r && (le least_ratio r && le r greatest_ratio)) last.0)).0
+      (and_parts (is_finite r) (le least_ratio r && le r greatest_ratio) (not-false (is_finite r && (le least_ratio r && le r greatest_ratio)) last.0)).0
 
   finite_thresh : is_finite (of_bits binary64 (get_or f 0 0)) ≡ true
   unfolding thresh options_from
   finite_thresh =
-      (both_true (is_finite (of_bits binary64 (get_or f 0 0))) (lt zero' (of_bits binary64 (get_or f 0 0)))
+      (and_parts (is_finite (of_bits binary64 (get_or f 0 0))) (lt zero' (of_bits binary64 (get_or f 0 0)))
       (not-false (is_finite (of_bits binary64 (get_or f 0 0)) && lt zero' (of_bits binary64 (get_or f 0 0))) second.0)).0
 
   positive_confidence : lt zero' (of_bits binary64 (get_or f 1 0)) ≡ true
   unfolding confidence options_from
   positive_confidence =
-      (both_true (lt zero' (of_bits binary64 (get_or f 1 0))) (lt (of_bits binary64 (get_or f 1 0)) one)
+      (and_parts (lt zero' (of_bits binary64 (get_or f 1 0))) (lt (of_bits binary64 (get_or f 1 0)) one)
       (not-false (lt zero' (of_bits binary64 (get_or f 1 0)) && lt (of_bits binary64 (get_or f 1 0)) one) third.0)).0
 
 options_back : (n : OptionNumbers) → OptionsRepresentable n → first_failed (options_asked (options_fields n)) ≡ 0 → options_numbers (options_from (options_fields n)) ≡ n
 unfolding OptionsRepresentable options_numbers options_fields
 options_back n held passed =
-    rw (from_fields n held.0 held.1 held.5, mark_kept n.refit_mark (small_mark (options_fields n) passed))
+    rw (from_fields n [] (is_true (fits binary64 _) held.0) (is_true (fits binary64 _) held.1) (is_true (fits binary64 _) held.5), mark_kept n.refit_mark (small_mark (options_fields n) passed))
 
 ratio_there : (f : List ℕ) → length f ≡ 7 → ratio_from (drop 6 f) ≡ of_bits binary64 (get_or f 6 0)
 unfolding ratio_from
@@ -191,14 +177,14 @@ unfolding short_layout options_layout options_fields options_numbers options_fro
 options_again f fit passed =
     let size = fit_length fit in
     let there = ratio_there f size in
-    rw (bits_back (get_or f 0 0) (fit_at fit 0 (omega arith)) (finite_no_nan (of_bits binary64 (get_or f 0 0)) (finite_thresh f passed)), bits_back (get_or f 1 0) (fit_at fit 1 (omega arith)) (above_no_nan zero' (of_bits binary64 (get_or f 1 0)) (positive_confidence f passed)), mark_kept (get_or f 4 0) (small_mark f passed), there, bits_back (get_or f 6 0) (fit_at fit 6 (omega arith)) (finite_no_nan (of_bits binary64 (get_or f 6 0)) (ap is_finite (sym there) ∙ finite_ratio f passed)))
+    rw (to_bits-of_bits binary64 (get_or f 0 0) (fit_at fit 0 (omega arith)) (finite_no_nan (of_bits binary64 (get_or f 0 0)) (finite_thresh f passed)), to_bits-of_bits binary64 (get_or f 1 0) (fit_at fit 1 (omega arith)) (above_no_nan zero' (of_bits binary64 (get_or f 1 0)) (positive_confidence f passed)), mark_kept (get_or f 4 0) (small_mark f passed), there, to_bits-of_bits binary64 (get_or f 6 0) (fit_at fit 6 (omega arith)) (finite_no_nan (of_bits binary64 (get_or f 6 0)) (ap is_finite (sym there) ∙ finite_ratio f passed)))
     (ap (λ filler. get_or f 0 0 ∷ get_or f 1 0 ∷ get_or f 2 0 ∷ get_or f 3 0 ∷ get_or f 4 0 ∷ filler ∷ get_or f 6 0 ∷ []) (sym (no_filler f passed)) ∙ sym (one_by_one 7 0 f 0 size))
 
 options-fit : (n : OptionNumbers) → OptionsRepresentable n → Fit options_layout (options_fields n)
 unfolding OptionsRepresentable short_layout options_layout options_fields
 options-fit n held =
     let filler : 0 < 256 ^ 7 = omega arith in
-    more (bits_below n.thresh held.0) (more (bits_below n.confidence held.1) (more held.2 (more held.3 (more held.4 (more filler (more (bits_below n.ratio held.5) none))))))
+    more (to_bits-lt binary64 n.thresh held.0) (more (to_bits-lt binary64 n.confidence held.1) (more held.2 (more held.3 (more held.4 (more filler (more (to_bits-lt binary64 n.ratio held.5) none))))))
 
 options_laws : Laws options_format
 unfolding options_format numbered first_failed

@@ -1,21 +1,23 @@
 -- A trial's writer: its ways out, and what its format keeps. Assumes nothing.
 use mathlib.Core.Path.{◌≡◌, refl, sym, ap, ap₂, subst, ◌∙◌}
 use mathlib.Core.Bool.{Bool, true, false, not, cond, ◌&&◌, ◌||◌, true≢false}
-use mathlib.Core.List.{List, [], ◌∷◌, ◌++◌, map, append-nil, append_assoc}
-use Prim.Native.Nat.{ℕ, zero, suc, ◌+◌, ◌-◌, ◌*◌, ◌/◌, ◌%◌, ◌^◌, ◌≤◌, ◌<◌}
+use mathlib.Core.List.{List, [], ◌∷◌, ◌++◌, map, append-nil}
+use Prim.Native.Nat.{ℕ, zero, suc, ◌+◌, ◌^◌, ◌≤◌, ◌<◌}
 use native.Mathlib.Omega.{arith}
-use borrow.Author.Tests.{not-false, eq-eqb, ne_eqb}
+use borrow.Author.Tests.{not-false, eqb-true, eq-eqb}
 use borrow.Rule.Slice.PartMut.{mid_of, put_mid}
 use lib.Dec.{T, leb, eqb, leb→le, eqb→eq}
 use lib.ListN.{length, get_or, take, drop, replicate, length-append, length-drop, length-map, take-append-drop}
 use lib.Seq.{take_at, drop_at, take_all, drop-cons, drop-drop}
-use lib.Ieee.{Float, binary64, fits, to_bits}
-use Rattle.rule.specs.Refusal.{RECORD, ROOM}
+use native.Mathlib.Nat.{mod-eq_of_lt}
+use Rattle.std.proofs.lemmas.List.Folds.{list_all-map}
+use lib.Ieee.{Float, nan, binary64, fits, to_bits}
+use Rattle.rule.specs.Refusal.{RECORD}
 use Rattle.rule.specs.Order.{Test, first_failed}
 use Rattle.rule.specs.Lists.{every, for_each, filled}
-use Rattle.rule.proofs.Tests.{and_false, is_test, failed, held}
+use Rattle.rule.proofs.Tests.{is_test}
 use Rattle.rule.proofs.Lists.{for_each-append, for_each-length}
-use Rattle.rule.proofs.Order.{stops, passes, numbered, first_passed}
+use Rattle.rule.proofs.Order.{numbered, first_passed}
 use Rattle.numbers.specs.Constants.{zero'}
 use Rattle.numbers.specs.Finite.{all_finite}
 use Rattle.sheet.specs.Distance.{model_numbers}
@@ -23,26 +25,28 @@ use Rattle.sheet.specs.declared.model.Model.{Model}
 use Rattle.book.specs.Score.{Trial, unfitted, fitted, refitted}
 use Rattle.fields.specs.Fields.{bytes_of, double_bytes}
 use Rattle.fields.specs.Packing.{size_of, packed}
-use Rattle.fields.proofs.Writing.{bytes_wide, double_wide, laid_none, laid_more, laid_all}
+use Rattle.fields.proofs.Writing.{double_wide, laid_none, laid_more, laid_all}
 use Rattle.fields.proofs.Packing.{Fit, none, more, fit_length, fit-taken, fit-left, packed_even}
-use Rattle.records.specs.Trial.{trial_layout, fit_bits, refit_bits, model_from, marked, marks_formed, numbers_formed, trial_sound, trial_from}
+use Rattle.records.specs.Trial.{trial_layout, fit_bits, refit_bits, model_from, marked, marks_formed, numbers_formed, doubles_formed, parts_formed, trial_sound, trial_from}
 use Rattle.records.proofs.Formed.{nine}
-use Rattle.writer.specs.Format.{record_of, Faithful}
+use Rattle.writer.specs.Format.{record_of, writer_answer, written, Faithful}
 use Rattle.writer.specs.Formats.{TrialNumbers, trial_numbers, trial_fields, nine_each, TrialRepresentable, trial_format}
-use Rattle.writer.proofs.Answers.{Wrote, turned_down, cramped, wrote}
-use Rattle.writer.proofs.Bits.{both_true, numbers_back, fields_fit, bits_again, zeros, zero_numbers, zeros_again, every_map, bits-written}
+use Rattle.writer.proofs.Answers.{answer_by, exit_by, answer_is, exit_is, laid_copy}
+use Rattle.std.proofs.lemmas.Bool.{and_parts}
+use Rattle.records.proofs.Bits.{by_places}
+use Rattle.writer.proofs.Bits.{numbers_back, fields_fit, bits_again, zeros, zero_numbers, zeros_again, bits-written}
 use Rattle.writer.proofs.Faith.{Laws, faithful}
 
 -- ---- numbers, marked or not
 
-module _ (l : List Float) where
-  pub numbers_finite : {mark : Bool} → mark ≡ true → T (every (fits binary64) l) → {r : Bool} → r ≡ all_finite l → r ≡ numbers_formed mark (map (to_bits binary64) l)
-  unfolding numbers_formed
-  numbers_finite t d e = rw (t, numbers_back l d) e
+-- the numbers of a lent list are doubles
+abbrev Doubles : List Float → Type 0
+Doubles l = (i : ℕ) → T (fits binary64 (get_or l i nan))
 
-  pub numbers_zero : {mark : Bool} → mark ≡ false → {r : Bool} → r ≡ every (λ x. eqb (to_bits binary64 x) 0) l → r ≡ numbers_formed mark (map (to_bits binary64) l)
-  unfolding numbers_formed
-  numbers_zero t e = rw t (e ∙ sym (every_map (λ b. eqb b 0) (to_bits binary64) l))
+by_bits : (mark : Bool) (l : List Float) → Doubles l → numbers_formed mark (map (to_bits binary64) l) ≡ doubles_formed mark l
+unfolding numbers_formed doubles_formed
+by_bits true l h = ap all_finite (numbers_back l (by_places (fits binary64) l nan h))
+by_bits false l h = list_all-map (λ b. eqb b 0) (to_bits binary64) l
 
 -- ---- what stands in the fields
 
@@ -71,28 +75,60 @@ module _ (n : TrialNumbers) (a : length n.fit ≡ 9) (b : length n.refit ≡ 9) 
   unfolding refit_bits trial_fields
   refit_there = ap (take 9) (drop_at fit refit 9 fit_wide) ∙ take_all 9 refit (rw refit_wide (omega arith))
 
-  sound_is : (marks_formed n.fit_mark n.refit_mark && (numbers_formed (eqb n.fit_mark 1) fit && numbers_formed (eqb n.refit_mark 1) refit)) ≡ trial_sound (trial_fields n)
-  unfolding trial_sound marked trial_fields
-  sound_is =
-      ap₂ (λ x y. marks_formed n.fit_mark n.refit_mark && (numbers_formed (eqb n.fit_mark 1) x && numbers_formed (eqb n.refit_mark 1) y)) (sym fit_there) (sym refit_there)
+  module _ (p : Doubles n.fit) (q : Doubles n.refit) where
+    sound_is : trial_sound (trial_fields n) ≡ parts_formed n.fit_mark n.refit_mark n.fit n.refit
+    unfolding trial_sound marked trial_fields parts_formed
+    sound_is = rw (fit_there, refit_there, by_bits (eqb n.fit_mark 1) n.fit p, by_bits (eqb n.refit_mark 1) n.refit q)
+
+-- ---- the writer, by what its code asks
+
+abbrev form : List ℕ → Test
+form f = record { fails = not (trial_sound f); number = RECORD }
+
+module _ (n : TrialNumbers) (entry : List ℕ) (p : Doubles n.fit) (q : Doubles n.refit) where
+  abbrev sound : Bool
+  sound = parts_formed n.fit_mark n.refit_mark n.fit n.refit
+
+  abbrev formed : Bool
+  formed = eqb (length n.fit) 9 && (eqb (length n.refit) 9 && sound)
+
+  here : first_failed (trial_format.asks n ++ trial_format.tests (trial_format.fields n)) ≡ cond formed 0 RECORD
+  unfolding trial_format nine_each first_failed
+  here = by_fit (eqb (length n.fit) 9) refl
+    where
+      last : (b : Bool) → cond (not b) RECORD 0 ≡ cond b 0 RECORD
+      last true = refl
+      last false = refl
+
+      by_refit : length n.fit ≡ 9 → (b : Bool) → eqb (length n.refit) 9 ≡ b
+          → cond (not b) RECORD (cond (not (trial_sound (trial_fields n))) RECORD 0) ≡ cond (b && sound) 0 RECORD
+      by_refit a true h = rw (sound_is n a (eqb-true (length n.refit) 9 h) p q) (last sound)
+      by_refit a false h = refl
+
+      by_fit : (b : Bool) → eqb (length n.fit) 9 ≡ b
+          → cond (not (b && eqb (length n.refit) 9)) RECORD (cond (not (trial_sound (trial_fields n))) RECORD 0) ≡ cond (b && (eqb (length n.refit) 9 && sound)) 0 RECORD
+      by_fit true h = by_refit (eqb-true (length n.fit) 9 h) (eqb (length n.refit) 9) refl
+      by_fit false h = refl
+
+  above : T (numbered (trial_format.asks n ++ trial_format.tests (trial_format.fields n)))
+  unfolding trial_format numbered nine_each
+  above = tt
+
+  pub trial_answered : writer_answer trial_format n entry ≡ answer_by (cond formed 0 RECORD) 152 (length entry)
+  trial_answered = answer_is trial_format n entry above ∙ rw (here, trial_size)
+
+  pub trial_exit : written trial_format n entry ≡ exit_by (cond formed 0 RECORD) 152 (record_of trial_format n) entry
+  trial_exit = exit_is trial_format n entry above ∙ rw (here, trial_size)
 
 -- ---- the bytes
 
 doubles_wide : (l : List Float) → length l ≡ 9 → length (for_each double_bytes l) ≡ 72
 doubles_wide l h = for_each-length double_bytes 8 double_wide l ∙ rw h
 
--- the two marks and six zero bytes are eight bytes of a number
-marks_filler : (fit refit : ℕ) → fit < 256 → refit < 256 → bytes_of 8 (fit + refit * 256) ≡ bytes_of 1 fit ++ (bytes_of 1 refit ++ bytes_of 6 0)
-unfolding bytes_of
-marks_filler fit refit h g =
-    let low : (fit + refit * 256) % 256 ≡ fit % 256 = omega (arith, h) in
-    let high : (fit + refit * 256) / 256 ≡ refit = omega (arith, h) in
-    let none : refit / 256 ≡ 0 = omega (arith, g) in
-    rw (low, high, none)
-
-module _ (n : TrialNumbers) (a : length n.fit ≡ 9) (b : length n.refit ≡ 9) where
+module _ (n : TrialNumbers) (a : length n.fit ≡ 9) (b : length n.refit ≡ 9) (h : n.fit_mark < 256) (g : n.refit_mark < 256) where
+  -- the marks and six zero bytes, as they are copied
   abbrev front : List ℕ
-  front = bytes_of 8 (n.fit_mark + n.refit_mark * 256)
+  front = n.fit_mark ∷ n.refit_mark ∷ 0 ∷ 0 ∷ 0 ∷ 0 ∷ 0 ∷ 0 ∷ []
 
   -- the eighteen numbers
   numbers-packed : packed (replicate 18 8) (fit n a b ++ refit n a b) ≡ for_each double_bytes n.fit ++ for_each double_bytes n.refit
@@ -103,100 +139,25 @@ module _ (n : TrialNumbers) (a : length n.fit ≡ 9) (b : length n.refit ≡ 9) 
       ∙ for_each-append (bytes_of 8) (fit n a b) (refit n a b)
       ∙ ap₂ (λ x y. x ++ y) (bits-written n.fit) (bits-written n.refit)
 
-  packs : bytes_of 1 n.fit_mark ++ (bytes_of 1 n.refit_mark ++ (bytes_of 6 0 ++ packed (replicate 18 8) (fit n a b ++ refit n a b))) ≡ record_of trial_format n
-  unfolding record_of trial_format trial_layout trial_fields packed
-  packs = refl
+  packs : front ++ for_each double_bytes n.fit ++ for_each double_bytes n.refit ≡ record_of trial_format n
+  unfolding record_of trial_format trial_layout trial_fields packed bytes_of
+  packs = rw (mod-eq_of_lt h, mod-eq_of_lt g, numbers-packed)
 
-  trial-bytes : n.fit_mark < 256 → n.refit_mark < 256 → [] ++ front ++ for_each double_bytes n.fit ++ for_each double_bytes n.refit ≡ record_of trial_format n
-  trial-bytes h g =
-      append_assoc front (for_each double_bytes n.fit) (for_each double_bytes n.refit)
-      ∙ ap₂ (λ x y. x ++ y) (marks_filler n.fit_mark n.refit_mark h g) (sym numbers-packed)
-      ∙ append_assoc (bytes_of 1 n.fit_mark) (bytes_of 1 n.refit_mark ++ bytes_of 6 0) (packed (replicate 18 8) (fit n a b ++ refit n a b))
-      ∙ ap (λ x. bytes_of 1 n.fit_mark ++ x) (append_assoc (bytes_of 1 n.refit_mark) (bytes_of 6 0) (packed (replicate 18 8) (fit n a b ++ refit n a b)))
-      ∙ packs
-
-  trial_laid : (entry : List ℕ) → 152 ≤ length entry → {x y z : List ℕ} → x ≡ filled front (mid_of 0 (8 - 0) entry)
-      → y ≡ filled (for_each double_bytes n.fit) (mid_of 8 (80 - 8) (put_mid 0 (8 - 0) entry x))
-      → z ≡ filled (for_each double_bytes n.refit) (mid_of 80 (152 - 80) (put_mid 8 (80 - 8) (put_mid 0 (8 - 0) entry x) y))
-      → put_mid 80 (152 - 80) (put_mid 8 (80 - 8) (put_mid 0 (8 - 0) entry x) y) z ≡ filled ([] ++ front ++ for_each double_bytes n.fit ++ for_each double_bytes n.refit) entry
-  trial_laid entry room e f g =
-      let p : length front ≡ 8 = bytes_wide 8 (n.fit_mark + n.refit_mark * 256) in
-      let q : length (for_each double_bytes n.fit) ≡ 72 = doubles_wide n.fit a in
-      let r : length (for_each double_bytes n.refit) ≡ 72 = doubles_wide n.refit b in
-      let s : length (front ++ for_each double_bytes n.fit) ≡ 80 = length-append front (for_each double_bytes n.fit) ∙ ap₂ (λ j k. j + k) p q in
-      let t : length (front ++ for_each double_bytes n.fit ++ for_each double_bytes n.refit) ≡ 152 =
-      length-append (front ++ for_each double_bytes n.fit) (for_each double_bytes n.refit) ∙ ap₂ (λ j k. j + k) s r
+  -- the three parts, one after the other
+  pub trial_laid : (entry : List ℕ) → 152 ≤ length entry → {x y z : List ℕ} → x ≡ front → y ≡ filled (for_each double_bytes n.fit) (mid_of 8 72 (put_mid 0 8 entry x))
+      → z ≡ filled (for_each double_bytes n.refit) (mid_of 80 72 (put_mid 8 72 (put_mid 0 8 entry x) y))
+      → put_mid 80 72 (put_mid 8 72 (put_mid 0 8 entry x) y) z ≡ filled (record_of trial_format n) entry
+  trial_laid entry room d e f =
+      let i : length (for_each double_bytes n.fit) ≡ 72 = doubles_wide n.fit a in
+      let j : length (for_each double_bytes n.refit) ≡ 72 = doubles_wide n.refit b in
+      let both : length (front ++ for_each double_bytes n.fit) ≡ 80 = length-append front (for_each double_bytes n.fit) ∙ rw i in
+      let all : length (front ++ for_each double_bytes n.fit ++ for_each double_bytes n.refit) ≡ 152 =
+      length-append (front ++ for_each double_bytes n.fit) (for_each double_bytes n.refit) ∙ rw (both, j)
       in
-      let one = laid_more entry (laid_none entry) (omega arith) 0 8 front refl (rw p (omega arith)) (omega arith) e in
-      let two = laid_more entry one (rw p (omega arith)) 8 80 (for_each double_bytes n.fit) p (rw q (omega arith)) (omega arith) f in
-      let three = laid_more entry two (rw s (omega arith)) 80 152 (for_each double_bytes n.refit) s (rw r (omega arith)) room g in
-      laid_all entry three (rw t room)
-
--- ---- the ways out
-
-abbrev form : List ℕ → Test
-form f = record { fails = not (trial_sound f); number = RECORD }
-
-module _ (n : TrialNumbers) (entry : List ℕ) where
-  abbrev tests : ℕ
-  tests = first_failed (trial_format.asks n ++ trial_format.tests (trial_format.fields n))
-
-  by_record : RECORD ≡ tests → Wrote trial_format n entry RECORD entry
-  by_record e = turned_down trial_format n entry e (λ z. absurd (omega (arith, z)))
-
-  not_nine : (nine_each n).fails ≡ true → Wrote trial_format n entry RECORD entry
-  unfolding trial_format nine_each
-  not_nine h = by_record (stops (nine_each n) (form (trial_fields n) ∷ []) h)
-
-  pub fit_count : (length n.fit ≡ 9 → ⊥) → Wrote trial_format n entry RECORD entry
-  unfolding nine_each
-  fit_count h = not_nine (rw (ne_eqb (length n.fit) 9 h))
-
-  pub refit-count : (length n.refit ≡ 9 → ⊥) → Wrote trial_format n entry RECORD entry
-  unfolding nine_each
-  refit-count h = not_nine (rw (ne_eqb (length n.refit) 9 h, and_false))
-
-  module _ (a : length n.fit ≡ 9) (b : length n.refit ≡ 9) where
-    after_nine : first_failed (form (trial_fields n) ∷ []) ≡ tests
-    unfolding trial_format nine_each
-    after_nine = passes (nine_each n) (form (trial_fields n) ∷ []) (rw (eq-eqb (length n.fit) 9 a, eq-eqb (length n.refit) 9 b))
-
-    malformed : trial_sound (trial_fields n) ≡ false → Wrote trial_format n entry RECORD entry
-    malformed h = by_record (stops (form (trial_fields n)) [] (rw h) ∙ after_nine)
-
-    module _ {marks : Bool} (m : marks ≡ marks_formed n.fit_mark n.refit_mark) where
-      pub marks_wrong : marks ≡ false → Wrote trial_format n entry RECORD entry
-      marks_wrong h = malformed (sym (sound_is n a b) ∙ rw (failed m h))
-
-      module _ (right : marks ≡ true) {f : Bool} (fits : f ≡ numbers_formed (eqb n.fit_mark 1) (fit n a b)) where
-        pub fit_wrong : f ≡ false → Wrote trial_format n entry RECORD entry
-        fit_wrong h = malformed (sym (sound_is n a b) ∙ rw (failed fits h, and_false))
-
-        module _ (fit-right : f ≡ true) {r : Bool} (refits : r ≡ numbers_formed (eqb n.refit_mark 1) (refit n a b)) where
-          pub refit_wrong : r ≡ false → Wrote trial_format n entry RECORD entry
-          refit_wrong h = malformed (sym (sound_is n a b) ∙ rw (failed refits h, and_false, and_false))
-
-          module _ (refit-right : r ≡ true) where
-            passed : 0 ≡ tests
-            unfolding first_failed
-            passed =
-                passes (form (trial_fields n)) [] (rw (← sound_is n a b, held m right, held fits fit-right, held refits refit-right)) ∙ after_nine
-
-            above : T (numbered (trial_format.asks n ++ trial_format.tests (trial_format.fields n)))
-            unfolding trial_format numbered nine_each
-            above = tt
-
-            pub trial_no_room : length entry < 152 → Wrote trial_format n entry ROOM entry
-            trial_no_room h = cramped trial_format n entry above passed (rw trial_size h)
-
-            pub trial-written : 152 ≤ length entry → n.fit_mark < 256 → n.refit_mark < 256 → {x y z : List ℕ}
-                → x ≡ filled (bytes_of 8 (n.fit_mark + n.refit_mark * 256)) (mid_of 0 (8 - 0) entry)
-                → y ≡ filled (for_each double_bytes n.fit) (mid_of 8 (80 - 8) (put_mid 0 (8 - 0) entry x))
-                → z ≡ filled (for_each double_bytes n.refit) (mid_of 80 (152 - 80) (put_mid 8 (80 - 8) (put_mid 0 (8 - 0) entry x) y))
-                → Wrote trial_format n entry 0 (put_mid 80 (152 - 80) (put_mid 8 (80 - 8) (put_mid 0 (8 - 0) entry x) y) z)
-            trial-written room i j e f g =
-                let p = trial_laid n a b entry room e f g in
-                wrote trial_format n entry above passed (rw trial_size room) (p ∙ ap (λ l. filled l entry) (trial-bytes n a b i j))
+      let one = laid_copy entry (laid_none entry) (omega arith) 0 8 front refl refl (omega arith) d in
+      let two = laid_more entry one (omega arith) 8 80 (for_each double_bytes n.fit) refl (rw i) (omega arith) e in
+      let three = laid_more entry two (rw both (omega arith)) 80 152 (for_each double_bytes n.refit) both (rw j) room f in
+      laid_all entry three (rw all room) ∙ ap (λ l. filled l entry) packs
 
 -- ---- what the format keeps
 
@@ -218,8 +179,8 @@ at_most_one (suc (suc a)) b h g e = absurd (omega (arith, h))
 ordered : (a b : ℕ) → marks_formed a b ≡ true → Ordered a b
 unfolding marks_formed
 ordered a b h =
-    let p = both_true (leb a 1) (leb b 1 && (eqb a 1 || not (eqb b 1))) h in
-    let q = both_true (leb b 1) (eqb a 1 || not (eqb b 1)) p.1 in
+    let p = and_parts (leb a 1) (leb b 1 && (eqb a 1 || not (eqb b 1))) h in
+    let q = and_parts (leb b 1) (eqb a 1 || not (eqb b 1)) p.1 in
     at_most_one a b (leb→le a 1 (is_test (leb a 1) p.0)) (leb→le b 1 (is_test (leb b 1) q.0)) q.1
 
 -- what a sound record's fields say
@@ -227,9 +188,9 @@ module _ (f : List ℕ) (sound : trial_sound f ≡ true) where
   parts : (marks_formed (get_or f 0 0) (get_or f 1 0) ≡ true) × (get_or f 2 0 ≡ 0) × (numbers_formed (eqb (get_or f 0 0) 1) (fit_bits f) ≡ true) × (numbers_formed (eqb (get_or f 1 0) 1) (refit_bits f) ≡ true)
   unfolding trial_sound marked
   parts =
-      let p = both_true (marks_formed (get_or f 0 0) (get_or f 1 0)) _ sound in
-      let q = both_true (eqb (get_or f 2 0) 0) _ p.1 in
-      let r = both_true (numbers_formed (eqb (get_or f 0 0) 1) (fit_bits f)) (numbers_formed (eqb (get_or f 1 0) 1) (refit_bits f)) q.1 in
+      let p = and_parts (marks_formed (get_or f 0 0) (get_or f 1 0)) _ sound in
+      let q = and_parts (eqb (get_or f 2 0) 0) _ p.1 in
+      let r = and_parts (numbers_formed (eqb (get_or f 0 0) 1) (fit_bits f)) (numbers_formed (eqb (get_or f 1 0) 1) (refit_bits f)) q.1 in
       (p.0, eqb→eq (get_or f 2 0) 0 (is_test (eqb (get_or f 2 0) 0) q.0), r.0, r.1)
 
 -- the trial of two marks and the bits of two lists
