@@ -10,9 +10,9 @@ use lib.Dec.{lit<}
 use lib.Pow.{pow_pos, pow_mono, pow-add}
 use lib.Count.{count_leading_zeros, leading_top}
 use Rattle.rule.proofs.Tests.{le_or_gt}
-use Rattle.root.specs.Digits.{Extracted, whole_root}
+use Rattle.root.specs.Digits.{Extracted, whole_root, Holds}
 use Rattle.root.specs.Root.{IsScaled, significand, exponent, shift_of, shift, scaled, height, root_bits}
-use Rattle.root.proofs.Whole.{square_next, square-double, whole_is}
+use Rattle.root.proofs.Whole.{square_next, square-double, whole_is, ended}
 use Rattle.root.proofs.Patterns.{value, value_next, value_mono, value_made, exponent_is, significand_lt, significand_pos}
 
 -- ---- the significand in 53 digits, and then in 53 or 54
@@ -283,19 +283,21 @@ shifted b m e s pos fin p q r =
 pub is_scaled : (b m e s : ℕ) → Shifted b m e s → IsScaled b (m * 2 ^ s % 2 ^ 64) ((e + 1022 - s) / 2 * 2 ^ 52)
 is_scaled b m e s f = record { digits = f.up; exponent_in_place = ap (λ (x : ℕ). x / 2 * 2 ^ 52) f.height }
 
--- a scaled number, its place, and the whole root
-pub record Rounded (b place r : ℕ) : Type 0 where
+-- a number that is scaled, and its root in all digits
+pub record Rounded (b place root : ℕ) : Type 0 where
   pub low : place ≤ 2045 * 2 ^ 52
-  pub short : r < 2 ^ 54
-  pub is : place + (r + 1) / 2 ≡ root_bits b
+  pub short : root < 2 ^ 55
+  pub is : place + (root + 2) / 4 ≡ root_bits b
 
-pub rounded_is : (b n place r : ℕ) → 0 < b → b < 2047 * 2 ^ 52 → IsScaled b n place → r ≡ whole_root (n * 2 ^ 54) → Rounded b place r
+pub rounded_is : (b n place root left : ℕ) → (0 < b) × (b < 2047 * 2 ^ 52) → IsScaled b n place → Holds (n * 2 ^ 54) 54 root left 2 → Rounded b place root
 unfolding root_bits
-rounded_is b n place r pos fin s h =
-    let k = low-height b pos fin in
+rounded_is b n place root left p s h =
+    let k = low-height b p.0 p.1 in
     let e = s.exponent_in_place in
-    let w : r ≡ whole_root (scaled b * 2 ^ 54) = h ∙ ap (λ (x : ℕ). whole_root (x * 2 ^ 54)) s.digits in
-    record { low = omega arith; short = rw w (digits54 b pos).short; is = ap₂ (λ (x y : ℕ). x + (y + 1) / 2) e w }
+    let w : root / 2 ≡ whole_root (scaled b * 2 ^ 54) = ended _ _ _ _ h ∙ ap (λ (x : ℕ). whole_root (x * 2 ^ 54)) s.digits in
+    let d = (digits54 b p.0).short in
+    let x : (root + 2) / 4 ≡ (whole_root (scaled b * 2 ^ 54) + 1) / 2 = omega arith in
+    record { low = omega arith; short = omega arith; is = ap₂ (λ (x y : ℕ). x + y) e x }
 
 pub scaled_short : (b n place : ℕ) → 0 < b → IsScaled b n place → n < 2 ^ 54
 scaled_short b n place pos s = rw s.digits (scaled_is b pos).most

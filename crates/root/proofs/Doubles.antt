@@ -7,17 +7,17 @@ use Prim.Native.Nat.{ℕ, zero, suc, ◌+◌, ◌*◌, ◌/◌, ◌%◌, ◌^◌
 use native.Mathlib.Nat.{mod-eq_of_lt, lt_irrefl, lt_trans, zero-lt-suc, mul-div_cancel}
 use native.Mathlib.Omega.{arith}
 use borrow.Author.Tests.{lt-ltb, lt-leb, le-leb, ne_eqb}
-use lib.Dec.{T, ltb, leb, eqb, lit<}
-use lib.Ieee.{Float, nan, inf, fin, binary64, down, odd, of_fields, of_bits, to_bits, nan_bits, fits, is_nan, div, lt, le, eq}
+use lib.Dec.{T, leb, eqb, lit<}
+use lib.Ieee.{Float, nan, inf, fin, binary64, down, odd, of_fields, of_bits, to_bits, nan_bits, fits, is_nan, lt, le, eq}
 use lib.Ieee.Fits.{down_pos}
 use lib.Ieee.Bits.{of_bits-to_bits}
 use lib.Ieee.Exact.{HasValue, odd_sign}
 use lib.Ieee.Positive.{positive}
 use Rattle.rule.specs.Refusal.{NUMBER}
 use Rattle.rule.specs.Answer.{refused, gives}
-use Rattle.rule.proofs.Tests.{le_or_gt, or_true, is_test, clash}
+use Rattle.rule.proofs.Tests.{le_or_gt, or_true, clash}
 use Rattle.rule.proofs.Nan.{no_nan_bits}
-use Rattle.rule.proofs.Zero.{zero_lt, eq_zero, zero_eq, eq_zeros, zeros_eq}
+use Rattle.rule.proofs.Zero.{zero_lt, zero_eq, zeros_eq}
 use Rattle.root.specs.Double.{units}
 use Rattle.root.specs.Root.{significand, exponent, root_bits, has_root, root_of, root_answer}
 use Rattle.root.proofs.Bits.{root_bits_finite}
@@ -25,13 +25,20 @@ use Rattle.root.proofs.Patterns.{value, exponent_is, significand-low, significan
 
 -- ---- what comparisons with 0 and with infinity say
 
-pub positive_of : (a : Float) → lt (of_bits binary64 0) a ≡ true → lt a (of_bits binary64 0x7ff0_0000_0000_0000) ≡ true → T (positive a)
+pub positive_of : (a : Float) → lt (of_bits binary64 0) a ≡ true → lt a (of_bits binary64 0x7ff0_0000_0000_0000) ≡ positive a
 unfolding lt of_bits
-positive_of nan p q = clash p refl
-positive_of (inf true) p q = clash p refl
-positive_of (inf false) p q = clash q refl
-positive_of (fin true m e) p q = clash p (zero_lt true m e)
-positive_of (fin false m e) p q = is_test (ltb 0 m) (sym (zero_lt false m e) ∙ p)
+positive_of nan p = clash p refl
+positive_of (inf true) p = clash p refl
+positive_of (inf false) p = refl
+positive_of (fin true m e) p = clash p (zero_lt true m e)
+positive_of (fin false m e) p = sym p ∙ zero_lt false m e
+
+pub positive_not : (a : Float) → lt (of_bits binary64 0) a ≡ false → false ≡ positive a
+unfolding lt of_bits
+positive_not nan p = refl
+positive_not (inf s) p = refl
+positive_not (fin true m e) p = refl
+positive_not (fin false m e) p = sym p ∙ zero_lt false m e
 
 pub no_nan : (a : Float) → T (positive a) → T (not (is_nan a))
 unfolding is_nan
@@ -42,37 +49,13 @@ no_nan (fin s m e) p = tt
 -- the four ways through `sqrt`
 
 pub root_positive : (a : Float) → T (positive a) → root_of a ≡ of_bits binary64 (root_bits (to_bits binary64 a))
-unfolding root_of
+unfolding root_of has_root
 root_positive nan p = absurd p
 root_positive (inf s) p = absurd p
 root_positive (fin true m e) p = absurd p
 root_positive (fin false zero e) p = absurd p
 root_positive (fin false (suc m) e) p = refl
 
-pub root_infinite : (a : Float) → lt (of_bits binary64 0) a ≡ true → lt a (of_bits binary64 0x7ff0_0000_0000_0000) ≡ false → a ≡ root_of a
-unfolding lt of_bits root_of
-root_infinite nan p q = refl
-root_infinite (inf true) p q = clash p refl
-root_infinite (inf false) p q = refl
-root_infinite (fin s m e) p q = clash refl q
-
-pub root_zero : (a : Float) → eq a (of_bits binary64 0) ≡ true → a ≡ root_of a
-unfolding eq of_bits root_of
-root_zero nan p = refl
-root_zero (inf s) p = clash p refl
-root_zero (fin s zero e) p = refl
-root_zero (fin s (suc m) e) p = clash p (eq_zero s m e)
-
-pub root_none : (a : Float) → lt (of_bits binary64 0) a ≡ false → eq a (of_bits binary64 0) ≡ false → div binary64 (of_bits binary64 0) (of_bits binary64 0) ≡ root_of a
-unfolding lt eq div of_bits root_of
-root_none nan p q = refl
-root_none (inf true) p q = refl
-root_none (inf false) p q = clash refl p
-root_none (fin s zero e) p q = clash (eq_zeros s e) q
-root_none (fin true (suc m) e) p q = refl
-root_none (fin false (suc m) e) p q = clash (zero_lt false (suc m) e ∙ lt-ltb 0 (suc m) (zero-lt-suc m)) p
-
--- and the two through `root`
 pub le_zero : (a : Float) → le (of_bits binary64 0) a ≡ has_root a
 unfolding le lt eq of_bits has_root
 le_zero nan = refl
@@ -82,9 +65,30 @@ le_zero (fin s zero e) = ap (λ (b : Bool). lt (of_bits binary64 0) (fin s zero 
 le_zero (fin true (suc m) e) = zero_eq true m e
 le_zero (fin false (suc m) e) = ap (λ (b : Bool). b || eq (of_bits binary64 0) (fin false (suc m) e)) (zero_lt false (suc m) e ∙ lt-ltb 0 (suc m) (zero-lt-suc m))
 
-pub answered : (a : Float) → le (of_bits binary64 0) a ≡ true → gives (root_of a) ≡ root_answer a
+-- what is no finite positive number is its own root, or has none
+pub own_root : (a : Float) → positive a ≡ false → le (of_bits binary64 0) a ≡ true → a ≡ root_of a
+unfolding root_of has_root
+own_root nan p q = refl
+own_root (inf true) p q = clash q (le_zero (inf true))
+own_root (inf false) p q = refl
+own_root (fin s zero e) p q = refl
+own_root (fin true (suc m) e) p q = clash q (le_zero (fin true (suc m) e))
+own_root (fin false (suc m) e) p q = clash (lt-ltb 0 (suc m) (zero-lt-suc m)) p
+
+pub no_root : (a : Float) → le (of_bits binary64 0) a ≡ false → of_bits binary64 0x7ff8_0000_0000_0000 ≡ root_of a
+unfolding root_of has_root of_bits
+no_root nan p = refl
+no_root (inf true) p = refl
+no_root (inf false) p = clash (le_zero (inf false)) p
+no_root (fin s zero e) p = clash (le_zero (fin s zero e)) p
+no_root (fin true (suc m) e) p = refl
+no_root (fin false (suc m) e) p = clash (le_zero (fin false (suc m) e)) p
+
+-- and the two through `root`
+
+pub root_given : (a y : Float) → le (of_bits binary64 0) a ≡ true → y ≡ root_of a → gives y ≡ root_answer a
 unfolding root_answer
-answered a h = rw (sym (le_zero a) ∙ h)
+root_given a y h e = rw (sym (le_zero a) ∙ h, e)
 
 pub turned_down : (a : Float) → le (of_bits binary64 0) a ≡ false → refused NUMBER ≡ root_answer a
 unfolding root_answer
@@ -146,8 +150,8 @@ no_nan_pattern n h = no_nan_bits n (omega arith)
 
 -- ---- from the root's pattern to the root
 
-pub root_no_nan : (a : Float) (p : ℕ) → T (fits binary64 a) → T (positive a) → p ≡ root_bits (to_bits binary64 a) → T (not (nan_bits binary64 p))
-root_no_nan a p f q e = let b = pattern_finite a f q in rw e (no_nan_pattern _ (root_bits_finite _ b.0 b.1).1)
+pub root_no_nan : (b p : ℕ) → (0 < b) × (b < 2047 * 2 ^ 52) → p ≡ root_bits b → T (not (nan_bits binary64 p))
+root_no_nan b p f e = rw e (no_nan_pattern _ (root_bits_finite _ f.0 f.1).1)
 
 pub root-read : (a : Float) (p : ℕ) → T (positive a) → p ≡ root_bits (to_bits binary64 a) → of_bits binary64 p ≡ root_of a
 root-read a p q e = ap (of_bits binary64) e ∙ sym (root_positive a q)

@@ -10,6 +10,7 @@ use borrow.Author.Tests.{le-leb, lt-leb}
 use lib.Dec.{lit<}
 use lib.Pow.{pow_pos, pow-add}
 use lib.Arith.{mod-mul}
+use Rattle.std.proofs.Common.{List, [], ◌∷◌, get_or}
 use Rattle.rule.proofs.Tests.{le_or_gt}
 use Rattle.root.specs.Digits.{Extracted, taken, Partial, one_more, after_digits, whole_root, Holds, Ready, NextDigit, Chosen}
 
@@ -321,3 +322,19 @@ digit_step {root} {left} {unit} {grown} {cut} q g c = record {
   none = λ h. let a = g.no (omega arith) in let b = c.no (omega arith) in (a, omega arith);
   halved = refl;
 }
+
+pub unit_halved : (i unit : ℕ) → i < 54 → unit ≡ 2 ^ (55 - i) → unit / 2 ≡ 2 ^ (55 - (i + 1))
+unit_halved i unit h e =
+    let k = 54 - i in
+    let x : 55 - i ≡ suc k = omega arith in
+    let y : 55 - (i + 1) ≡ k = omega arith in
+    rw y (let u : unit ≡ 2 ^ k * 2 = e ∙ ap (λ (j : ℕ). 2 ^ j) x ∙ pow-suc 2 k in omega arith)
+
+-- ---- lists of numbers and of states
+
+pub short_none : (k : ℕ) → get_or [] k 0 < 2 ^ 54
+short_none k = omega arith
+
+pub short_more : (n : ℕ) (l : List ℕ) → n < 2 ^ 54 → ((k : ℕ) → get_or l k 0 < 2 ^ 54) → (k : ℕ) → get_or (n ∷ l) k 0 < 2 ^ 54
+short_more n l h a zero = h
+short_more n l h a (suc k) = a k

@@ -4,7 +4,8 @@
 -- to be the part of the scaled number taken so far less the square of the root so far, and at most twice that root.' The digits are those of
 -- `after_digits`; what is shown is `Extracted`, by the theorem `after_each_digit` in proofs/Whole.antt; and that the loop carries just these roots and
 -- remainders is `Holds`, the promise of `after_digits`, for each number of digits. `carried` says the sentence of what the loop holds.
-use Rattle.std.specs.Prelude.{◌≡◌, cond, ℕ, zero, suc, ◌+◌, ◌*◌, ◌/◌, ◌-◌, ◌%◌, ◌^◌, ◌≤◌, ◌<◌, leb}
+use Rattle.std.specs.Prelude.{◌≡◌, cond, ℕ, zero, suc, ◌+◌, ◌*◌, ◌/◌, ◌-◌, ◌%◌, ◌^◌, ◌≤◌, ◌<◌, leb, List, length, get_or}
+use Rattle.root.specs.declared.Digits.{Digits}
 
 -- `root` is the whole root of `part`, and `rem` what `part` has beyond its square.
 pub record Extracted (part root rem : ℕ) : Type 0 where
@@ -64,3 +65,16 @@ pub record NextDigit (root left unit root' left' unit' : ℕ) : Type 0 where
 pub record Chosen (left trial none one r : ℕ) : Type 0 where
   pub yes : trial ≤ left → r ≡ one
   pub no : left < trial → r ≡ none
+
+-- ---- several numbers side by side
+
+-- each has at most 54 digits
+abbrev pub AllShort : List ℕ → Type 0
+AllShort numbers = (k : ℕ) → get_or numbers k 0 < 2 ^ 54
+
+-- what the loop holds of the one at place k, after i digits
+abbrev pub HoldsAt : (numbers : List ℕ) (i : ℕ) (states : List Digits) (unit k : ℕ) → Type 0
+HoldsAt numbers i states unit k = (d : Digits) → Holds (get_or numbers k 0 * 2 ^ 54) i (get_or states k d).root (get_or states k d).left unit
+
+abbrev pub AllHold : (numbers : List ℕ) (i : ℕ) (states : List Digits) (unit : ℕ) → Type 0
+AllHold numbers i states unit = (k : ℕ) → k < length numbers → HoldsAt numbers i states unit k
