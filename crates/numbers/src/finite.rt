@@ -4,38 +4,32 @@ ghost use Rattle.std.specs.Prelude.{◌≡◌};
 ghost use Rattle.numbers.specs.Finite.{abs_of, is_finite, all_finite, within as withinOf};
 
 // The sign cleared, a zero's too.
+#[tactic(auto, using(crate::proofs::Laws::sign_cleared))]
 pub fn abs(x: f64) -> f64
     ensures { result ≡ abs_of x }
 {
-    if x < 0.0 {
-        return -x;
-    }
-    if x == 0.0 { 0.0 } else { x }
+    x.abs()
 }
 
+#[tactic(auto, using(crate::proofs::Laws::finite))]
 pub fn is_finite(x: f64) -> bool
     ensures { result ≡ is_finite x }
 {
-    abs(x) < f64::from_bits(0x7ff0_0000_0000_0000)
+    x.is_finite()
 }
 
 // Whether every number of the list is finite.
+#[tactic(auto, unfolding(crate::specs::Finite::all_finite))]
 pub fn ensure_finite(values: &[f64]) -> bool
     ensures { result ≡ all_finite values.now }
 {
-    let mut i = 0;
-    while i < values.len() {
-        if !is_finite(values[i]) {
-            return false;
-        }
-        i += 1;
-    }
-    true
+    values.iter().all(|x| is_finite(*x))
 }
 
 // Finite, and of magnitude at most `limit`.
+#[tactic(auto, unfolding(crate::specs::Finite::within))]
 pub fn within(x: f64, limit: f64) -> bool
     ensures { result ≡ withinOf limit x }
 {
-    if is_finite(x) { abs(x) <= limit } else { false }
+    is_finite(x) && abs(x) <= limit
 }

@@ -71,18 +71,12 @@ fn solve_curved(a: f64, b: f64, disc: f64) -> Quadratic
 pub fn solve_quadratic_real(a: f64, b: f64, c: f64) -> Result<Quadratic, Refusal>
     ensures { told view_quadratic result ≡ quadratic_answer a b c }
 {
-    if !within(a, 1e100) {
+    if !(within(a, 1e100) && within(b, 1e100) && within(c, 1e100)) {
         return Err(Refusal::Number);
     }
-    if !within(b, 1e100) {
-        return Err(Refusal::Number);
-    }
-    if !within(c, 1e100) {
-        return Err(Refusal::Number);
-    }
-    if counts_0(a) {
-        Ok(solve_linear(b, c))
+    Ok(if counts_0(a) {
+        solve_linear(b, c)
     } else {
-        Ok(solve_curved(a, b, b * b - 4.0 * a * c))
-    }
+        solve_curved(a, b, b * b - 4.0 * a * c)
+    })
 }

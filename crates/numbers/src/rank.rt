@@ -3,6 +3,7 @@ ghost use Rattle.std.specs.Prelude.{◌≡◌};
 ghost use Rattle.numbers.specs.Rank.{rank_ok};
 
 // Whether the singular value just above the expected null space is large enough beside the first.
+#[tactic(auto, unfolding(crate::specs::Rank::rank_ok))]
 pub fn dlt_rank_ok(
     singular_values: &[f64],
     cols: usize,
@@ -11,19 +12,14 @@ pub fn dlt_rank_ok(
 ) -> bool
     ensures { result ≡ rank_ok singular_values.now cols expected_null_dim rel_tol }
 {
-    if singular_values.len() == 0 {
+    let Some(first) = singular_values.first() else {
+        return false;
+    };
+    if *first <= f64::EPSILON || cols <= expected_null_dim {
         return false;
     }
-    let first = singular_values[0];
-    if first <= 2.220446049250313e-16 {
+    let Some(boundary) = singular_values.get(cols - expected_null_dim - 1) else {
         return false;
-    }
-    if cols <= expected_null_dim {
-        return false;
-    }
-    let boundary = cols - expected_null_dim - 1;
-    if singular_values.len() <= boundary {
-        return false;
-    }
-    singular_values[boundary] / first >= rel_tol
+    };
+    *boundary / *first >= rel_tol
 }
