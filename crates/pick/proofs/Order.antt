@@ -2,16 +2,18 @@
 use mathlib.Core.Path.{◌≡◌, refl, sym, ◌∙◌}
 use mathlib.Core.Bool.{false, not, cond}
 use mathlib.Core.List.{List, [], ◌∷◌, ◌++◌}
-use Prim.Native.Nat.{ℕ, zero, suc, ◌%◌, ◌≤◌}
+use Prim.Native.Nat.{ℕ, zero, suc, ◌<◌, ◌%◌, ◌≤◌}
 use native.Mathlib.Omega.{arith}
 use borrow.Author.Tests.{eq-eqb, ne_eqb, ltb-false}
-use lib.Dec.{ltb, eqb}
+use lib.Dec.{T, ltb, eqb}
 use lib.ListN.{length}
 use lib.Ieee.{Float}
+use Rattle.rule.specs.declared.Refusal.{Refusal}
+use Rattle.rule.specs.Refusal.{number_of}
 use Rattle.rule.specs.Order.{Test, first_failed}
 use Rattle.rule.proofs.Tests.{neither}
-use Rattle.rule.proofs.Order.{passes, first_passed, one_failed, all_passed, none_failed}
-use Rattle.sheet.specs.Marks.{marks_of, shape, few, marks_tests}
+use Rattle.rule.proofs.Order.{numbered, passes, first_passed, one_failed, all_passed, none_failed}
+use Rattle.sheet.specs.Marks.{marks_of, shape, point, few, marks_tests}
 use Rattle.sheet.proofs.Places.{count}
 use Rattle.sheet.proofs.Refused.{marks_passed}
 use Rattle.records.specs.Options.{options_tests}
@@ -21,14 +23,33 @@ use Rattle.records.specs.declared.options.RansacOptions.{RansacOptions}
 use Rattle.judge.proofs.Ways.{run_passed, judged_alike}
 use Rattle.judge.specs.Judging.{Call, of_run, entries, call_tests, tested_marks, tested_tests, judge_of, judge_tested}
 use Rattle.pick.specs.Opening.{opening_tests}
+use Rattle.pick.specs.Indices.{marks_order}
 
--- the tests of the options, in front of others
-pub options_first : (o : RansacOptions) (rest : List Test) → first_failed (options_tests o ++ rest) ≡ cond (eqb (first_failed (options_tests o)) 0) (first_failed rest) (first_failed (options_tests o))
-options_first o rest = go (first_failed (options_tests o)) refl
+-- ---- tests in front of others
+
+above_0 : (e : Refusal) → 0 < number_of e
+above_0 e = grind arith
+
+front : (ts rest : List Test) → T (numbered ts) → first_failed (ts ++ rest) ≡ cond (eqb (first_failed ts) 0) (first_failed rest) (first_failed ts)
+front ts rest p = go (first_failed ts) refl
   where
-    go : (k : ℕ) → first_failed (options_tests o) ≡ k → first_failed (options_tests o ++ rest) ≡ cond (eqb k 0) (first_failed rest) k
-    go zero e = sym (all_passed (options_tests o) rest (options_above_0 o) e)
-    go (suc k) e = rw (ne_eqb (suc k) 0 (λ z. absurd (omega (arith, z)))) (sym (one_failed (options_tests o) rest (λ z. absurd (let y = sym e ∙ z in omega (arith, y)))) ∙ e)
+    go : (k : ℕ) → first_failed ts ≡ k → first_failed (ts ++ rest) ≡ cond (eqb k 0) (first_failed rest) k
+    go zero e = sym (all_passed ts rest p e)
+    go (suc k) e = rw (ne_eqb (suc k) 0 (λ z. absurd (omega (arith, z)))) (sym (one_failed ts rest (λ z. absurd (let y = sym e ∙ z in omega (arith, y)))) ∙ e)
+
+pub options_first : (o : RansacOptions) (rest : List Test) → first_failed (options_tests o ++ rest) ≡ cond (eqb (first_failed (options_tests o)) 0) (first_failed rest) (first_failed (options_tests o))
+options_first o rest = front (options_tests o) rest (options_above_0 o)
+
+pub marks_first : (l : List Float) (rest : List Test) → first_failed (marks_tests l ++ rest) ≡ cond (eqb (first_failed (marks_tests l)) 0) (first_failed rest) (first_failed (marks_tests l))
+unfolding numbered marks_tests shape point
+marks_first l rest = front (marks_tests l) rest tt
+
+-- the indices' order, where the marks are the run's
+pub order_marks : {n k : ℕ} (l : List Float) (places : ℕ) → k ≡ length (marks_of l) → k ≡ n → (e : Refusal) → number_of e ≡ first_failed (marks_tests l) → number_of e ≡ first_failed (marks_order n l places)
+unfolding first_failed marks_order of_run
+order_marks {n} l places marks same e h =
+    let a = above_0 e in
+    rw (eq-eqb (length (marks_of l)) n (sym marks ∙ same)) (h ∙ one_failed (marks_tests l) _ (λ z. absurd (omega (arith, a, h, z))))
 
 -- marks that passed are at most 2,000
 pub at_most_2000 : (l : List Float) → 0 ≡ first_failed (marks_tests l) → length (marks_of l) ≤ 2000

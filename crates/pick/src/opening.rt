@@ -30,7 +30,7 @@ pub fn fresh_run(o: RansacOptions, n: usize) -> State
 }
 
 // Opens a run; refused with 2, 3, 4, 16, 5, 6, 7 or 8, in this order.
-#[tactic(auto, using(crate::proofs::Order::options_first, crate::proofs::Order::at_most_2000), unfolding(rule::specs::Order::first_failed, rule::specs::Order::decided, crate::specs::Opening::opening_answer, crate::specs::Opening::opening_tests, sheet::specs::Marks::marks_tests, sheet::specs::Marks::shape, sheet::specs::Marks::point, sheet::specs::Marks::few, judge::specs::Judging::entries))]
+#[tactic(auto, using(crate::proofs::Order::options_first, crate::proofs::Order::marks_first, crate::proofs::Order::at_most_2000), unfolding(rule::specs::Order::first_failed, rule::specs::Order::decided, crate::specs::Opening::opening_answer, crate::specs::Opening::opening_tests, sheet::specs::Marks::few, judge::specs::Judging::entries))]
 pub fn open(o: RansacOptions, marks: &[f64], stops: &[u32]) -> Result<State, Refusal>
     ensures { told view_state result ≡ opening_answer o marks.now stops.now }
 {
