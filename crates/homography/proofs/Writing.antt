@@ -1,13 +1,14 @@
 -- The rows of the marks in the lent list, eighteen places each. Assumes nothing.
-use mathlib.Core.Path.{◌≡◌, refl, ap, ◌∙◌}
+use mathlib.Core.Path.{◌≡◌, refl, sym, ap, ◌∙◌}
 use mathlib.Core.List.{List, [], ◌∷◌, ◌++◌}
 use Prim.Native.Nat.{ℕ, zero, suc, ◌+◌, ◌-◌, ◌*◌, ◌≤◌, ◌<◌}
 use native.Mathlib.Omega.{arith}
 use borrow.Rule.Slice.PartMut.{put_mid}
-use lib.ListN.{length, set, replicate}
+use lib.ListN.{length, set, replicate, take, drop}
+use lib.Seq.{take-length}
 use lib.Ieee.{Float}
-use Rattle.rule.specs.Lists.{replaced}
-use Rattle.rule.proofs.Lists.{Written, none, all, more, part_replaced, replaced_twice}
+use Rattle.rule.specs.Lists.{for_each, replaced}
+use Rattle.rule.proofs.Lists.{Written, none, more, part_replaced, replaced_twice}
 use Rattle.numbers.specs.Constants.{zero'}
 use Rattle.sheet.specs.Marks.{marks_of, mark_at, point_of, no_mark}
 use Rattle.sheet.specs.declared.marks.Mark.{Mark}
@@ -70,26 +71,36 @@ module _ (i : ℕ) (p q : Point) (s : List Float) (room : 18 * i + 18 ≤ length
 
 -- ---- all marks
 
-pub rows_wide : (sheet pixel : Change) (m : Mark) → length (mark_rows sheet pixel m) ≡ 18
+rows_wide : (sheet pixel : Change) (m : Mark) → length (mark_rows sheet pixel m) ≡ 18
 unfolding mark_rows u_row v_row
 rows_wide sheet pixel m = refl
 
+-- the lent list after the rows of the first i marks
+unfoldable pub written : Change → Change → List Float → List Float → ℕ → List Float
+written sheet pixel l entry i = for_each (mark_rows sheet pixel) (take i (marks_of l)) ++ drop (18 * i) entry
+
 module _ (sheet pixel : Change) (l entry : List Float) where
-  -- the rows of the first i marks are written
-  abbrev pub Rows : ℕ → List Float → Type 0
+  abbrev Rows : ℕ → List Float → Type 0
   Rows i s = Written (mark_rows sheet pixel) 18 (rows_wide sheet pixel) (marks_of l) entry i s
 
-  pub rows_none : Rows 0 entry
-  rows_none = none (mark_rows sheet pixel) 18 (rows_wide sheet pixel) (marks_of l) entry
+  so_far : (i : ℕ) → Rows i (written sheet pixel l entry i)
+  unfolding written
+  so_far i = record { is = refl }
 
-  module _ {n : ℕ} (count : n ≡ length (marks_of l)) where
-    module _ {i : ℕ} {s : List Float} (inside : i < n) (k : Rows i s) {m : Mark} (at : m ≡ mark_at l i) where
-      pub rows_more : {x u p q : Point} {t : List Float} → x ≡ point_of Sheet m → p ≡ normalized_by sheet x → u ≡ point_of Pixel m → q ≡ normalized_by pixel u
-          → t ≡ replaced (18 * i) (u_row p q.x ++ v_row p q.y) s → Rows (i + 1) t
-      unfolding mark_rows mark_at
-      rows_more a b c d e =
-          more (mark_rows sheet pixel) 18 (rows_wide sheet pixel) (marks_of l) entry count no_mark inside k at (rw (← a, ← b, ← c, ← d) e)
+  is : (i : ℕ) (s : List Float) → Rows i s → written sheet pixel l entry i ≡ s
+  unfolding written
+  is i s k = sym k.is
 
-    pub rows_all : {i : ℕ} {s : List Float} → i ≤ n → n ≤ i → Rows i s → s ≡ rows_list sheet pixel l entry
-    unfolding rows_list
-    rows_all h g k = all (mark_rows sheet pixel) 18 (rows_wide sheet pixel) (marks_of l) entry count h g k
+  pub written_none : written sheet pixel l entry 0 ≡ entry
+  written_none = is 0 entry (none (mark_rows sheet pixel) 18 (rows_wide sheet pixel) (marks_of l) entry)
+
+  pub written_more : (i : ℕ) → i < length (marks_of l)
+      → let p = normalized_by sheet (point_of Sheet (mark_at l i)) in
+      let q = normalized_by pixel (point_of Pixel (mark_at l i)) in
+      written sheet pixel l entry (i + 1) ≡ replaced (18 * i) (u_row p q.x ++ v_row p q.y) (written sheet pixel l entry i)
+  unfolding mark_rows mark_at
+  written_more i h = is (i + 1) _ (more (mark_rows sheet pixel) 18 (rows_wide sheet pixel) (marks_of l) entry refl no_mark h (so_far i) refl refl)
+
+  pub written_all : rows_list sheet pixel l entry ≡ written sheet pixel l entry (length (marks_of l))
+  unfolding rows_list written
+  written_all = rw (take-length (marks_of l))

@@ -43,6 +43,7 @@ fn write_mark(rows: &mut [f64], i: usize, p: Point, q: Point)
     write_row(&mut rows[b..e], 3, p, q.y);
 }
 
+#[tactic(auto, using(crate::proofs::Writing::written_none, crate::proofs::Writing::written_more, crate::proofs::Writing::written_all))]
 fn write_rows(marks: &[f64], sheet: Change, pixel: Change, rows: &mut [f64])
     requires { 18 * length (marks_of marks.now) ≤ length rows.old }
     ensures { rows.new ≡ rows_list sheet pixel marks.now rows.old }

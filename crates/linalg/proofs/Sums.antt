@@ -1,5 +1,5 @@
 -- A sum over one side's points, point by point. Assumes nothing.
-use Rattle.std.proofs.Common.{◌≡◌, ℕ, ◌+◌, ◌<◌, List, length, take, pos, sym}
+use Rattle.std.proofs.Common.{◌≡◌, ℕ, ◌+◌, ◌<◌, List, length, take, pos, refl}
 use Rattle.std.proofs.lemmas.List.Sums.{fold_more}
 use lib.Ieee.{Float, binary64, of_int}
 use lib.Seq.{take-length}
@@ -12,15 +12,19 @@ use Rattle.sheet.specs.declared.marks.Side.{Side}
 use Rattle.sheet.proofs.Places.{no_point, point-read}
 use Rattle.linalg.specs.Normalize.{mean}
 
+-- the sum over the first i points
+unfoldable pub sum_of : (Point → Float) → Side → List Float → ℕ → Float
+sum_of term side l i = sum_from term zero' (take i (points side l))
+
 module _ (term : Point → Float) (side : Side) (l : List Float) where
-  -- the sum over the first i points
-  abbrev pub sum_of : ℕ → Float
-  sum_of i = sum_from term zero' (take i (points side l))
+  pub sum_none : sum_of term side l 0 ≡ zero'
+  unfolding sum_of
+  sum_none = refl
 
-  pub sum_more : {sum : Float} {i n : ℕ} {p : Point} → n ≡ length (points side l) → i < n → p ≡ point_at side l i → sum ≡ sum_of i → sum ⊕ term p ≡ sum_of (i + 1)
-  sum_more {sum} {i} {n} {p} count h e o =
-      rw (o, e, ← point-read side l i) (sym (fold_more (λ s a. s ⊕ term a) zero' (points side l) i (no_point side) (rw (← count) h)))
+  pub sum_more : (i : ℕ) → i < length (points side l) → sum_of term side l (i + 1) ≡ sum_of term side l i ⊕ term (point_at side l i)
+  unfolding sum_of
+  sum_more i h = rw (← point-read side l i) (fold_more (λ s a. s ⊕ term a) zero' (points side l) i (no_point side) h)
 
-  pub mean_is : {sum c : Float} {i n : ℕ} → n ≡ length (points side l) → i ≡ n → sum ≡ sum_of i → c ≡ of_int binary64 (pos n) → sum ⊘ c ≡ mean term (points side l)
-  unfolding mean
-  mean_is {sum} {c} {i} {n} count end o e = rw (o, e, end, count, take-length (points side l))
+  pub mean_is : mean term (points side l) ≡ sum_of term side l (length (points side l)) ⊘ of_int binary64 (pos (length (points side l)))
+  unfolding mean sum_of
+  mean_is = rw (take-length (points side l))

@@ -1,9 +1,10 @@
 -- The normalised points in the lent list, two places each. Assumes nothing.
-use Rattle.std.proofs.Common.{◌≡◌, ℕ, ◌+◌, ◌*◌, ◌<◌, ◌≤◌, List, length, set, take, drop, append_assoc, sym, refl, ◌∙◌, add-one}
-use lib.Seq.{sets-eq}
+use Rattle.std.proofs.Common.{◌≡◌, ℕ, ◌+◌, ◌*◌, ◌<◌, ◌≤◌, List, length, set, take, drop, append_assoc, sym, refl, ◌∙◌, add-one, ◌++◌, arith}
+use native.Mathlib.Nat.{le_of_lt}
+use lib.Seq.{sets-eq, take-length}
 use lib.Ieee.{Float}
-use Rattle.rule.specs.Lists.{replaced}
-use Rattle.rule.proofs.Lists.{Written, none, all, more}
+use Rattle.rule.specs.Lists.{for_each, replaced}
+use Rattle.rule.proofs.Lists.{Written, none, same, more}
 use Rattle.sheet.specs.Marks.{points, point_at}
 use Rattle.sheet.specs.declared.marks.Point.{Point}
 use Rattle.sheet.specs.declared.marks.Side.{Side}
@@ -14,10 +15,10 @@ use Rattle.linalg.specs.declared.Change.{Change}
 -- how many points there are, by the numbers of the list
 pub ruleset counts = (points-count, count)
 
-abbrev pub pair : Change → Point → List Float
+abbrev pair : Change → Point → List Float
 pair c p = pair_of (normalized_by c p)
 
-pub pair_wide : (c : Change) (p : Point) → length (pair c p) ≡ 2
+pair_wide : (c : Change) (p : Point) → length (pair c p) ≡ 2
 unfolding pair_of
 pair_wide c p = refl
 
@@ -25,19 +26,34 @@ stored : (k : ℕ) (p : Point) (s : List Float) → k + 2 ≤ length s → set (
 unfolding pair_of replaced
 stored k p s h = rw (add-one k) (sets-eq (pair_of p) s k h ∙ append_assoc (take k s) (pair_of p) (drop (k + 2) s))
 
+-- the lent list after the first i points
+unfoldable pub written : Change → Side → List Float → List Float → ℕ → List Float
+written change side l entry i = for_each (pair change) (take i (points side l)) ++ drop (2 * i) entry
+
 module _ (change : Change) (side : Side) (l entry : List Float) where
-  -- the first i points are written
-  abbrev pub Points : ℕ → List Float → Type 0
+  abbrev Points : ℕ → List Float → Type 0
   Points i s = Written (pair change) 2 (pair_wide change) (points side l) entry i s
 
-  pub points_none : Points 0 entry
-  points_none = none (pair change) 2 (pair_wide change) (points side l) entry
+  so_far : (i : ℕ) → Points i (written change side l entry i)
+  unfolding written
+  so_far i = record { is = refl }
 
-  module _ {n : ℕ} (count : n ≡ length (points side l)) where
-    pub points_more : {i : ℕ} {s : List Float} {p q : Point} → i < n → 2 * i + 2 ≤ length s → p ≡ point_at side l i → q ≡ normalized_by change p → Points i s → Points (i + 1) (set (set s (2 * i) q.x) (2 * i + 1) q.y)
-    points_more {i} {s} {p} {q} h room at by k =
-        more (pair change) 2 (pair_wide change) (points side l) entry count (no_point side) h k (at ∙ sym (point-read side l i)) (rw (by) (stored (2 * i) (normalized_by change p) s room))
+  is : (i : ℕ) (s : List Float) → Points i s → written change side l entry i ≡ s
+  unfolding written
+  is i s k = sym k.is
 
-    pub points_all : {i : ℕ} {s : List Float} → i ≤ n → n ≤ i → Points i s → s ≡ normalized_list change (points side l) entry
-    unfolding normalized_list
-    points_all h g k = all (pair change) 2 (pair_wide change) (points side l) entry count h g k
+  pub written_none : written change side l entry 0 ≡ entry
+  written_none = is 0 entry (none (pair change) 2 (pair_wide change) (points side l) entry)
+
+  pub written_more : (i : ℕ) → i < length (points side l) → 2 * length (points side l) ≤ length entry
+      → let p = normalized_by change (point_at side l i) in
+      written change side l entry (i + 1) ≡ set (set (written change side l entry i) (2 * i) p.x) (2 * i + 1) p.y
+  written_more i h room =
+      let long : length (written change side l entry i) ≡ length entry = same (pair change) 2 (pair_wide change) (points side l) entry refl (le_of_lt h) room (so_far i) in
+      is (i + 1) _
+      (more (pair change) 2 (pair_wide change) (points side l) entry refl (no_point side) h (so_far i) (sym (point-read side l i))
+      (stored (2 * i) (normalized_by change (point_at side l i)) (written change side l entry i) (omega (arith, long, room, h))))
+
+  pub written_all : normalized_list change (points side l) entry ≡ written change side l entry (length (points side l))
+  unfolding normalized_list written
+  written_all = rw (take-length (points side l))

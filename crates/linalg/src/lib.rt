@@ -29,7 +29,7 @@ pub struct Normalized {
     pub matrix: [Row; 3],
 }
 
-#[tactic(auto, unfolding(crate::specs::Normalize::centroid_of, crate::specs::Normalize::mean))]
+#[tactic(auto, unfolding(crate::specs::Normalize::centroid_of), using(crate::proofs::Sums::sum_none, crate::proofs::Sums::sum_more, crate::proofs::Sums::mean_is))]
 pub fn centroid(points: Points) -> Point
     ensures { result ≡ centroid_of (points_of points.entry.side points.entry.marks.now) }
 {
@@ -47,6 +47,7 @@ pub fn centroid(points: Points) -> Point
     }
 }
 
+#[tactic(auto, using(crate::proofs::Sums::sum_none, crate::proofs::Sums::sum_more))]
 pub fn mean_distance(points: Points, centre: Point) -> f64
     ensures { result ≡ mean_distance centre (points_of points.entry.side points.entry.marks.now) }
 {
@@ -88,19 +89,21 @@ fn matrix_of(change: Change) -> [Row; 3]
     ensures { result ≡ matrix_of change }
 {
     let scale = change.scale;
-    let r0 = Row {
-        cells: [scale, 0.0, -scale * change.centre.x],
-    };
-    let r1 = Row {
-        cells: [0.0, scale, -scale * change.centre.y],
-    };
-    let r2 = Row {
-        cells: [0.0, 0.0, 1.0],
-    };
-    [r0, r1, r2]
+    [
+        Row {
+            cells: [scale, 0.0, -scale * change.centre.x],
+        },
+        Row {
+            cells: [0.0, scale, -scale * change.centre.y],
+        },
+        Row {
+            cells: [0.0, 0.0, 1.0],
+        },
+    ]
 }
 
 // Every point of the side, normalised, into its own two places.
+#[tactic(auto, using(crate::proofs::Writing::written_none, crate::proofs::Writing::written_more, crate::proofs::Writing::written_all))]
 fn write_points(points: Points, change: Change, lent: &mut [f64])
     requires { 2 * length (points_of points.side points.marks.now) ≤ length lent.old }
     ensures { lent.new
