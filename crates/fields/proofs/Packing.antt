@@ -1,6 +1,6 @@
 -- One layout packs and unpacks: the numbers that were packed are found in the fields, and what was unpacked packs to the same bytes. Assumes nothing.
 use mathlib.Core.Path.{◌≡◌, refl, sym, ap, ap₂, subst, ◌∙◌}
-use mathlib.Core.Bool.{Bool, true, false, ◌&&◌}
+use mathlib.Core.Bool.{Bool, ◌&&◌}
 use mathlib.Core.List.{List, [], ◌∷◌, ◌++◌, map}
 use Prim.Native.Nat.{ℕ, zero, suc, ◌+◌, ◌*◌, ◌/◌, ◌%◌, ◌^◌, ◌≤◌, ◌<◌}
 use native.Mathlib.Nat.{add_comm, le-add_right, mul-zero, mul-suc, pow-zero, pow-succ', mod-eq_of_lt}
@@ -9,6 +9,7 @@ use borrow.Author.Tests.{ne_eqb}
 use lib.Dec.{T, ltb, eqb, ltb→lt}
 use lib.ListN.{length, get_or, take, drop, replicate, length-append, length-drop, take-append-drop}
 use lib.Seq.{take_at, take-add, take-append-le, drop_at, drop-append-le, drop-cons, drop-drop, length-take-le}
+use Rattle.std.proofs.lemmas.List.Folds.{list_all-append}
 use lib.Ieee.Fits.{and_i, and_l, and_r}
 use Rattle.rule.specs.Lists.{every, first_parts, parts_of, for_each}
 use Rattle.fields.specs.Fields.{little_endian, fields_of, longs_of, byte_at, zero_bytes, all_bytes, bytes_of}
@@ -180,12 +181,7 @@ unfolding zero_bytes
 zero_spelled from w l h = ap (every (λ b. eqb b 0)) (middle from w l h) ∙ spelled_zero (take w (drop from l))
 
 pub every_append : {A : Type 0} (test : A → Bool) (k l : List A) → every test (k ++ l) ≡ (every test k && every test l)
-every_append test [] l = refl
-every_append test (a ∷ k) l = ap (λ b. test a && b) (every_append test k l) ∙ sym (and_assoc (test a) (every test k) (every test l))
-  where
-    and_assoc : (a b c : Bool) → (a && b && c) ≡ (a && (b && c))
-    and_assoc true b c = refl
-    and_assoc false b c = refl
+every_append test k l = list_all-append test k l
 
 -- as eight-byte fields
 zero_fields : (k : ℕ) (l : List ℕ) → every (λ b. eqb b 0) (take (8 * k) l) ≡ every (λ b. eqb b 0) (map little_endian (first_parts 8 k l))

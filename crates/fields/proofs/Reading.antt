@@ -1,20 +1,16 @@
 -- What a reader finds at a place: a field of any width, and how one of four bytes and one of eight are put together. Assumes nothing.
 use mathlib.Core.Path.{◌≡◌, refl, sym, ap, ◌∙◌}
-use mathlib.Core.Bool.{true, false}
-use mathlib.Core.List.{List, [], ◌∷◌, ◌++◌}
-use Prim.Native.Nat.{ℕ, zero, suc, ◌+◌, ◌*◌, ◌/◌, ◌^◌, ◌≤◌, ◌<◌, min}
-use native.Mathlib.Nat.{zero-add, add-zero, add-suc, one-mul, mul_assoc, pow-zero, pow-succ'}
+use mathlib.Core.List.{List, [], ◌∷◌}
+use Prim.Native.Nat.{ℕ, zero, suc, ◌*◌, ◌/◌, ◌≤◌, ◌<◌}
 use native.Mathlib.Omega.{arith}
-use borrow.Author.Tests.{eq-eqb, ne_eqb}
-use lib.Dec.{eqb}
-use lib.ListN.{length, get_or, take, drop, length-take, length-drop, length-map, get_or-map}
-use lib.Seq.{drop-cons, drop-drop, take-add, length-take-le, get_or-take}
+use lib.ListN.{length, get_or, take, drop, length-drop, length-map, get_or-map}
+use lib.Seq.{length-take-le}
 use lib.Ieee.{Float, binary64, of_bits}
 use Rattle.std.specs.Int.{w32, w64, from_le_bytes}
 use Rattle.std.specs.Simd.{first_chunks}
 use Rattle.rule.specs.Lists.{first_parts, parts_of}
 use Rattle.rule.proofs.Lists.{past_end, place_read, parts_count, part_at, places_at, one_by_one}
-use Rattle.fields.specs.Fields.{little_endian, fields_of, words_of, longs_of, doubles_of, word_at, long_at, double_at, byte_at, zero_bytes}
+use Rattle.fields.specs.Fields.{little_endian, fields_of, words_of, longs_of, doubles_of, word_at, long_at, double_at, byte_at}
 
 pub no_byte : (l : List ℕ) (i : ℕ) → length l ≤ i → 0 ≡ byte_at l i
 unfolding byte_at

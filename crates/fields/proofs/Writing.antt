@@ -6,10 +6,9 @@ use native.Mathlib.Nat.{zero-add, le_of_lt, le_trans, mul_assoc, mul-suc, mul-le
 use native.Mathlib.Omega.{arith}
 use borrow.Rule.Slice.PartMut.{mid_of, put_mid}
 use lib.ListN.{length, get_or, drop}
-use lib.Ieee.{Float, binary64, to_bits}
 use Rattle.std.specs.Int.{byte_at, bytes_low_first}
 use Rattle.rule.specs.Lists.{for_each, replaced, filled}
-use Rattle.rule.proofs.Lists.{Written, none, same, more, no_room, all-filled, replaced-length, replaced_twice, filled_not, filled_is, filled-replaced, part_filled}
+use Rattle.rule.proofs.Lists.{Written, none, same, more, no_room, all-filled, replaced-length, replaced_twice, filled_is, filled-replaced, part_filled}
 use Rattle.fields.specs.Fields.{bytes_of}
 pub use Rattle.fields.specs.Wide.{bytes_wide, double_wide}
 

@@ -31,7 +31,8 @@ pub fn word_at(bytes: &[u8], i: usize) -> u32
     }
 }
 
-// The eight-byte field at place `i`; 0 where there is none.
+// The eight-byte field at place `i`; 0 where there is none. This and `word_at` stay two functions: they
+// share one test, and one for both would have to take the size and what reads it.
 #[tactic(auto, using(crate::proofs::Reading::long_read, crate::proofs::Reading::no_long))]
 pub fn long_at(bytes: &[u8], i: usize) -> u64
     ensures { result ≡ long_at bytes.now i }
