@@ -1,4 +1,4 @@
--- What a reader finds at a place: a field of any width, and how one of four bytes and one of eight are put together. Assumes nothing.
+-- What a reader finds at a place: a field of any width, and what the library makes of the parts of four bytes and of eight. Assumes nothing.
 use mathlib.Core.Path.{◌≡◌, refl, sym, ap, ◌∙◌}
 use mathlib.Core.List.{List, [], ◌∷◌}
 use Prim.Native.Nat.{ℕ, zero, suc, ◌*◌, ◌/◌, ◌≤◌, ◌<◌}
@@ -10,11 +10,7 @@ use Rattle.std.specs.Int.{w32, w64, from_le_bytes}
 use Rattle.std.specs.Simd.{first_chunks}
 use Rattle.rule.specs.Lists.{first_parts, parts_of}
 use Rattle.rule.proofs.Lists.{past_end, place_read, parts_count, part_at, places_at, one_by_one}
-use Rattle.fields.specs.Fields.{little_endian, fields_of, words_of, longs_of, doubles_of, word_at, long_at, double_at, byte_at}
-
-pub no_byte : (l : List ℕ) (i : ℕ) → length l ≤ i → 0 ≡ byte_at l i
-unfolding byte_at
-no_byte l i h = past_end l i 0 h
+use Rattle.fields.specs.Fields.{little_endian, fields_of, words_of, longs_of, doubles_of, word_at, long_at, double_at}
 
 -- ---- fields of w bytes
 

@@ -1,5 +1,5 @@
 -- The scores of what a reader gave, record by record. Assumes nothing.
-use Rattle.std.proofs.Common.{arith, ◌≡◌, ℕ, ◌≤◌, ◌<◌, Bool, false, List, [], ◌++◌, length, take, Option, Some, None, sym, ap, subst, ◌∙◌, append-nil}
+use Rattle.std.proofs.Common.{arith, ◌≡◌, ℕ, ◌≤◌, ◌<◌, zero-le, Bool, false, List, [], ◌++◌, length, take, Option, Some, None, sym, ap, subst, ◌∙◌, append-nil}
 use Rattle.std.specs.Io.KnownBytes.{Consumes}
 use Rattle.std.proofs.KnownBytes.{Consumes-nil, Consumes-trans}
 use Rattle.std.proofs.Math.Seq.{take-length}
@@ -19,8 +19,8 @@ module _ (n : ℕ) (Answers : Kind → List ℕ → Bool → Type 0) where
   pub whole_none : (a : Option (List ℕ)) {t : Scores} → t ≡ no_scores → Whole a a t
   whole_none a e = record { bytes = []; read = Consumes-nil a; scored = subst (Scored n Answers []) (sym e) Scored.none }
 
-  pub whole_all : {old new : Option (List ℕ)} {t : Scores} → 0 < n → Whole old new t → Replayed n Answers old new t
-  whole_all {old} {new} some w = (w.bytes, [], subst (Consumes old new) (sym (append-nil w.bytes)) w.read, some, w.scored)
+  pub whole_all : {old new : Option (List ℕ)} {t : Scores} → Whole old new t → Replayed n Answers old new t
+  whole_all {old} {new} w = (w.bytes, [], subst (Consumes old new) (sym (append-nil w.bytes)) w.read, zero-le, w.scored)
 
   module _ (old mid new : Option (List ℕ)) {t : Scores} (w : Whole old mid t) where
     -- what is no whole record is not counted

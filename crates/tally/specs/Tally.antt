@@ -1,5 +1,5 @@
 -- Scores: how many answers of each kind agree, of how many.
-use Rattle.std.specs.Prelude.{◌≡◌, Bool, false, cond, List, [], ◌∷◌, ◌++◌, length, ℕ, ◌+◌, ◌<◌, ltb, eqb, slice_index_or, slice_set, Option, Some, None, Result, MatchResult}
+use Rattle.std.specs.Prelude.{◌≡◌, Bool, false, cond, List, [], ◌∷◌, ◌++◌, length, ℕ, ◌+◌, ◌-◌, ◌≤◌, ltb, eqb, slice_index_or, slice_set, Option, Some, None, Result, MatchResult}
 use Rattle.std.specs.Borrow.{Bor}
 use Rattle.std.specs.Fn.{Shared, FnReturns}
 use Rattle.std.specs.Io.KnownBytes.{Consumes}
@@ -54,6 +54,6 @@ module _ (n : ℕ) (Answers : Kind → List ℕ → Bool → Type 0) where
     known : {bytes : List ℕ} (l : List ℕ) {t : Scores} {kind : Kind} {b : Bool} → Scored bytes t → length l ≡ n → kind_of (long_at l 0) ≡ Some kind → Answers kind l b → Scored (bytes ++ l) (scores_after t (Some kind) b)
     unknown : {bytes : List ℕ} (l : List ℕ) {t : Scores} → Scored bytes t → length l ≡ n → kind_of (long_at l 0) ≡ None → Scored (bytes ++ l) (scores_after t None false)
 
-  -- of what a reader gave: the rest is no whole record
+  -- of what a reader gave: the rest is no whole record, and nothing where records are of no bytes
   abbrev pub Replayed : Option (List ℕ) → Option (List ℕ) → Scores → Type 0
-  Replayed old new t = (bytes rest : List ℕ) × Consumes old new (bytes ++ rest) × (length rest < n) × Scored bytes t
+  Replayed old new t = (bytes rest : List ℕ) × Consumes old new (bytes ++ rest) × (length rest ≤ n - 1) × Scored bytes t

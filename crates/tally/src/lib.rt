@@ -138,7 +138,6 @@ pub fn replay_all<const N: usize, R: Read, F: Fn(Kind, &[u8]) -> bool>(
     file: &mut R,
     agrees: F,
 ) -> Scores
-    requires some { 0 < N }
     requires small { N < 2 ^ 63 }
     requires calls { F.IsAlwaysCallable agrees }
     ensures { Replayed N (Says F.Fn agrees) (R.remaining file.old) (R.remaining file.new) result }

@@ -20,4 +20,4 @@ records-preserved g c =
     ]
 
 pub returns : goal.returns
-returns g c = whole_all _ _ c.requires.some c.records.invariant
+returns g c = whole_all _ _ c.records.invariant
