@@ -21,7 +21,7 @@ use Rattle.rule.proofs.Tests.{neither}
 use Rattle.rule.proofs.Order.{numbered, first_passed}
 use Rattle.numbers.specs.Constants.{one}
 use Rattle.numbers.specs.Ratio.{ratio}
-use Rattle.sheet.specs.Distance.{model_numbers}
+use Rattle.sheet.specs.Distance.{model_numbers, model_of}
 use Rattle.sheet.specs.declared.model.Model.{Model}
 use Rattle.book.specs.Score.{Trial, unfitted, fitted, refitted}
 use Rattle.fields.specs.Fields.{little_endian, longs_of, byte_at, word_at, long_at, double_at, zero_bytes}
@@ -29,7 +29,7 @@ use Rattle.fields.specs.Packing.{size_of, unpacked}
 use Rattle.fields.proofs.Reading.{longs_count, long_spelled}
 use Rattle.fields.proofs.Packing.{Fit, fit-taken, fit-left, unpacked-fit}
 use Rattle.records.specs.Options.{layout_by, fields_in, options_sound, ratio_from, options_from, options_formed, options_record, options_of, options_answer, thresh, confidence, iters, options_tests}
-use Rattle.records.specs.Trial.{trial_layout, model_from, model_of, marked, marks_formed, numbers_formed, trial_sound, trial_from, trial_formed, trial_record, trial_of, trial_answer, nine_in, fit_bits, refit_bits, parts_formed, doubles_formed}
+use Rattle.records.specs.Trial.{trial_layout, model_from, marked, marks_formed, numbers_formed, trial_sound, trial_from, trial_formed, trial_record, trial_of, trial_answer, nine_in, fit_bits, refit_bits, parts_formed, doubles_formed}
 use Rattle.records.specs.declared.options.RansacOptions.{RansacOptions}
 use Rattle.records.proofs.Bits.{formed_again, bytes_read}
 use Rattle.records.proofs.Placed.{short_size, options_size, thresh_placed, confidence_placed, iters_placed, inliers_placed, refit_placed, filler_placed, ratio-none, ratio_placed, trial_size, fit_placed, refit_mark_placed, trial_filler_placed, fit_bits_placed, refit_bits_placed}
@@ -114,7 +114,7 @@ few-iters o h =
 -- ---- a trial's record
 
 pub nine : (bits : List ℕ) → length bits ≡ 9 → model_numbers (model_from bits) ≡ map (of_bits binary64) bits
-unfolding model_numbers model_from model_of places_at
+unfolding model_numbers model_from places_at
 nine bits size = sym (one_by_one 9 0 (map (of_bits binary64) bits) (of_bits binary64 0) (length-map bits (of_bits binary64) ∙ size))
 
 first_taken : (n r : ℕ) (l : List ℕ) → n ≤ length l → take n (take (n + r) l) ≡ take n l

@@ -7,8 +7,8 @@ use Rattle.rule.specs.Refusal.{RECORD}
 use Rattle.rule.specs.Answer.{Answer}
 use Rattle.rule.specs.Order.{Test, first_failed, decided}
 use Rattle.rule.specs.Lists.{every}
-use Rattle.numbers.specs.Constants.{zero'}
 use Rattle.numbers.specs.Finite.{all_finite}
+use Rattle.sheet.specs.Distance.{model_of}
 use Rattle.sheet.specs.declared.model.Model.{Model}
 use Rattle.book.specs.Score.{Trial, unfitted, fitted, refitted}
 use Rattle.fields.specs.Fields.{double_at}
@@ -27,21 +27,6 @@ fit_bits f = take 9 (drop 3 f)
 
 unfoldable pub refit_bits : (fields : List ℕ) → List ℕ
 refit_bits f = take 9 (drop 12 f)
-
--- a model's numbers, row by row
-unfoldable pub model_of : List Float → Model
-model_of l =
-    record {
-      h0 = get_or l 0 zero';
-      h1 = get_or l 1 zero';
-      h2 = get_or l 2 zero';
-      h3 = get_or l 3 zero';
-      h4 = get_or l 4 zero';
-      h5 = get_or l 5 zero';
-      h6 = get_or l 6 zero';
-      h7 = get_or l 7 zero';
-      h8 = get_or l 8 zero';
-    }
 
 unfoldable pub model_from : (bits : List ℕ) → Model
 model_from bits = model_of (map (of_bits binary64) bits)

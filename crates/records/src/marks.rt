@@ -6,7 +6,8 @@ ghost use Rattle.records.specs.Marks.{marks_in, numbers_in};
 
 use sheet::Mark;
 
-// The mark at place `i` of a file; all zeros where there is none.
+// The mark at place `i` of a file; all zeros where there is none. One function for this and `mark_at` of
+// `sheet`, which reads doubles, would take a closure for a number's place: no plainer.
 #[tactic(auto, using(crate::proofs::Reading::mark_read, crate::proofs::Reading::no_mark_read))]
 pub fn read_mark(bytes: &[u8], i: usize) -> Mark
     ensures { result ≡ get_or (marks_in bytes.now) i no_mark }

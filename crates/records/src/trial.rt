@@ -4,7 +4,7 @@ ghost use Rattle.std.specs.Float.{binary64};
 ghost use Rattle.std.specs.Float.Ieee.{to_bits};
 ghost use Rattle.rule.specs.Lists.{every};
 ghost use Rattle.rule.specs.Answer.{told};
-ghost use Rattle.records.specs.Trial.{nine_in, model_of, marks_formed, doubles_formed, parts_formed, trial_answer, view_recorded};
+ghost use Rattle.records.specs.Trial.{nine_in, marks_formed, doubles_formed, parts_formed, trial_answer, view_recorded};
 
 use rule::Refusal;
 use sheet::Model;
@@ -30,25 +30,6 @@ fn nine_in(bytes: &[u8]) -> [f64; 9]
     ensures { result ≡ nine_in bytes.now }
 {
     array::from_fn(|k| fields::double_at(bytes, k))
-}
-
-// Row by row.
-#[tactic(auto, unfolding(crate::specs::Trial::model_of))]
-fn model_of(numbers: [f64; 9]) -> Model
-    ensures { result ≡ model_of numbers }
-{
-    let [h0, h1, h2, h3, h4, h5, h6, h7, h8] = numbers;
-    Model {
-        h0,
-        h1,
-        h2,
-        h3,
-        h4,
-        h5,
-        h6,
-        h7,
-        h8,
-    }
 }
 
 // Whether each of a trial's marks is 0 or 1, and there is no refit without a fit.
@@ -103,10 +84,10 @@ pub fn read_trial(bytes: &[u8]) -> Result<Recorded, Refusal>
     }
     Ok(match (fit_mark, refit_mark) {
         (_, 1) => Recorded::Refit(Refitted {
-            fit: model_of(fit),
-            refit: model_of(refit),
+            fit: Model::from(fit),
+            refit: Model::from(refit),
         }),
-        (1, _) => Recorded::Fit(model_of(fit)),
+        (1, _) => Recorded::Fit(Model::from(fit)),
         _ => Recorded::Empty,
     })
 }
