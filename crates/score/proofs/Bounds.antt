@@ -1,15 +1,16 @@
 -- The threshold's limits: what a square says of its root without the root. Assumes nothing.
-use mathlib.Core.Path.{◌≡◌, refl, sym, ap, subst, ◌∙◌}
-use mathlib.Core.Bool.{Bool, true, false, not, ◌||◌}
+use mathlib.Core.Path.{◌≡◌, refl, sym, ◌∙◌}
+use mathlib.Core.Bool.{Bool, true, false, cond, not, ◌&&◌, ◌||◌}
 use Prim.Native.Nat.{ℕ, zero, suc, ◌*◌}
 use native.Mathlib.Omega.{arith}
 use native.Mathlib.Nat.{zero-add, add-zero}
 use borrow.Author.Tests.{lt-ltb, le-ltb, ne_eqb, not-false}
 use lib.Dec.{T, eqb, eqb-suc-zero}
 use lib.IntN.{ℤ, pos}
-use lib.Ieee.{Float, nan, inf, fin, binary64, up, down, of_bits, fits, is_nan, lt, le, eq, div, below, level}
+use lib.Ieee.{Float, nan, inf, fin, binary64, up, down, of_bits, fits, is_nan, lt, le, eq, below, level}
 use lib.Ieee.Bits.{is_true, of_bits-fits}
-use Rattle.rule.specs.Arith.{clear, ◌⊘◌}
+use Rattle.std.proofs.lemmas.Bool.{and_parts}
+use Rattle.rule.specs.Arith.{clear}
 use Rattle.rule.proofs.Tests.{clash, is_test, or_true}
 use Rattle.rule.proofs.Zero.{size_pos, no_size}
 use Rattle.root.specs.Root.{root_of}
@@ -17,15 +18,7 @@ use Rattle.root.proofs.Monotone.{root_monotone}
 use Rattle.numbers.specs.Constants.{zero'}
 use Rattle.book.proofs.Clear.{clear-has_root, root-clear}
 use Rattle.book.proofs.ClearOrder.{lt_le_trans, lt_not_le, le_trans_clear, over_clear}
-use Rattle.score.specs.Limits.{Low, High, Settles, surely, possibly}
-use Rattle.score.specs.declared.Limits.{Limits}
-
-pub settled_own : {thresh : Float} {l : Limits} → Settles thresh l → Settles l.thresh l
-settled_own {thresh} {l} s = subst (λ t. Settles t l) (sym s.same) s
-
--- a test against the limits' own threshold
-pub own_test : {thresh : Float} {l : Limits} (d : Float) (b : Bool) → Settles thresh l → b ≡ le d l.thresh → b ≡ le d thresh
-own_test d b s h = h ∙ ap (le d) s.same
+use Rattle.score.specs.Limits.{Low, High, no_limit, settled, surely, possibly}
 
 -- ---- a square, against the limits
 
@@ -98,40 +91,35 @@ root_zero : (s : Bool) (e : ℤ) (thresh : Float) → le (root_of (fin s zero e)
 unfolding root_of of_bits
 root_zero s e thresh = zero_le s e thresh
 
-module _ {thresh : Float} {l : Limits} (settled : Settles thresh l) where
-  -- a square from `high` on is not within, whether or not it has a root
-  pub surely-beyond : (q : Float) → T (fits binary64 q) → le l.high q ≡ true → le (root_of q) thresh ≡ false
+-- a square from `high` on is not within, whether or not it has a root
+module _ {thresh high : Float} (settled : High thresh high) where
+  from_high : (q : Float) → T (fits binary64 q) → le high q ≡ true → le (root_of q) thresh ≡ false
   unfolding root_of clear le lt eq
-  surely-beyond nan f h = refl
-  surely-beyond (inf true) f h = refl
-  surely-beyond (inf false) f h = settled.high.beyond (inf false) f tt h
-  surely-beyond (fin s zero e) f h = root_zero s e thresh ∙ settled.high.beyond zero' zero_fits zero_clear (sym (le_zero s e l.high) ∙ h)
-  surely-beyond (fin true (suc m) e) f h = refl
-  surely-beyond (fin false (suc m) e) f h = settled.high.beyond (fin false (suc m) e) f tt h
+  from_high nan f h = refl
+  from_high (inf true) f h = refl
+  from_high (inf false) f h = settled.beyond (inf false) f tt h
+  from_high (fin s zero e) f h = root_zero s e thresh ∙ settled.beyond zero' zero_fits zero_clear (sym (le_zero s e high) ∙ h)
+  from_high (fin true (suc m) e) f h = refl
+  from_high (fin false (suc m) e) f h = settled.beyond (fin false (suc m) e) f tt h
 
-  -- one that has a root, up to `low`, is within
-  pub surely-within : (q : Float) → T (fits binary64 q) → le zero' q ≡ true → le q l.low ≡ true → le (root_of q) thresh ≡ true
-  unfolding clear of_bits le lt eq
-  surely-within nan f z h = clash h refl
-  surely-within (inf true) f z h = clash z refl
-  surely-within (inf false) f z h = settled.low.within (inf false) f tt h
-  surely-within (fin s zero e) f z h = root_zero s e thresh ∙ settled.low.within zero' zero_fits zero_clear (sym (zero_le s e l.low) ∙ h)
-  surely-within (fin true (suc m) e) f z h = clash z (zero_first false (pos 0) true (suc m) e ∙ eqb-suc-zero m)
-  surely-within (fin false (suc m) e) f z h = settled.low.within (fin false (suc m) e) f tt h
-
--- the answers of the tests
-module _ {l : Limits} (q : Float) (settled : Settles l.thresh l) (double : T (fits binary64 q)) where
-  pub sure_by_low : le zero' q ≡ true → (le q l.low ≡ surely l q) × (le q l.low ≡ true → le (root_of q) l.thresh ≡ true)
-  unfolding surely
-  sure_by_low z = (rw z, surely-within settled q double z)
-
-  pub possible_by_high : (not (le l.high q) ≡ possibly l q) × (not (le l.high q) ≡ false → le (root_of q) l.thresh ≡ false)
+  pub surely-beyond : (q : Float) → T (fits binary64 q) → possibly high q ≡ false → le (root_of q) thresh ≡ false
   unfolding possibly
-  possible_by_high = (refl, λ h. surely-beyond settled q double (not-false (le l.high q) h))
+  surely-beyond q f h = from_high q f (not-false (le high q) h)
 
-pub not_sure : (l : Limits) (q : Float) → le zero' q ≡ false → (false ≡ surely l q) × (false ≡ true → le (root_of q) l.thresh ≡ true)
-unfolding surely
-not_sure l q z = (rw z, λ h. absurd (clash h refl))
+-- one that has a root, up to `low`, is within
+module _ {thresh low : Float} (settled : Low thresh low) where
+  to_low : (q : Float) → T (fits binary64 q) → le zero' q ≡ true → le q low ≡ true → le (root_of q) thresh ≡ true
+  unfolding clear of_bits le lt eq
+  to_low nan f z h = clash h refl
+  to_low (inf true) f z h = clash z refl
+  to_low (inf false) f z h = settled.within (inf false) f tt h
+  to_low (fin s zero e) f z h = root_zero s e thresh ∙ settled.within zero' zero_fits zero_clear (sym (zero_le s e low) ∙ h)
+  to_low (fin true (suc m) e) f z h = clash z (zero_first false (pos 0) true (suc m) e ∙ eqb-suc-zero m)
+  to_low (fin false (suc m) e) f z h = settled.within (fin false (suc m) e) f tt h
+
+  pub surely-within : (q : Float) → T (fits binary64 q) → surely low q ≡ true → le (root_of q) thresh ≡ true
+  unfolding surely
+  surely-within q f h = let z = and_parts (le zero' q) (le q low) h in to_low q f z.0 z.1
 
 -- ---- the limits themselves
 
@@ -139,30 +127,45 @@ not_sure l q z = (rw z, λ h. absurd (clash h refl))
 pub above_clear : (t : Float) → lt zero' t ≡ true → T (clear t)
 above_clear t h = over_clear zero' t zero_clear h
 
--- below and above a limit that is a double above 0
-module _ (thresh limit : Float) (double : T (fits binary64 limit)) {root : Float} (is : root ≡ root_of limit) (sign : lt zero' thresh ≡ true) (above : lt zero' limit ≡ true) where
-  limit_root : T (clear (root_of limit))
-  limit_root = root-clear limit double (above_clear limit above)
+pub no-high : (thresh : Float) → High thresh no_limit
+unfolding of_bits is_nan
+no-high thresh = record { beyond = λ d f c g. clash refl (left-number nan d g) }
 
-  pub low_limit : le root thresh ≡ true → Low thresh limit
-  low_limit h =
-      record {
-        within = λ d f c g. is_true (le (root_of d) thresh) (le_trans_clear (root_of d) (root_of limit) thresh (root-clear d f c) limit_root (above_clear thresh sign) (root_monotone d limit f double (clear-has_root d c) (is_test (le d limit) g)) (is_test (le (root_of limit) thresh) (ap (λ r. le r thresh) (sym is) ∙ h)));
-      }
+no-low : (thresh : Float) → Low thresh no_limit
+unfolding of_bits is_nan
+no-low thresh = record { within = λ d f c g. clash refl (right_number d nan g) }
 
-  pub high_limit : lt thresh root ≡ true → High thresh limit
-  high_limit h =
-      record {
-        beyond = λ d f c g. lt_not_le thresh (root_of d) (above_clear thresh sign) (root-clear d f c) (lt_le_trans thresh (root_of limit) (root_of d) (above_clear thresh sign) limit_root (root-clear d f c) (ap (λ r. lt thresh r) (sym is) ∙ h) (root_monotone limit d double f (clear-has_root limit (above_clear limit above)) (is_test (le limit d) g)));
-      }
+-- by the root of a limit that is a double
+module _ (thresh limit : Float) (double : T (fits binary64 limit)) where
+  module _ (sign : lt zero' thresh ≡ true) (above : lt zero' limit ≡ true) where
+    limit_root : T (clear (root_of limit))
+    limit_root = root-clear limit double (above_clear limit above)
 
--- a NaN is no limit
-nan_is : is_nan (zero' ⊘ zero') ≡ true
-unfolding of_bits div is_nan
-nan_is = refl
+    low_limit : le (root_of limit) thresh ≡ true → Low thresh limit
+    low_limit h =
+        record {
+          within = λ d f c g. is_true (le (root_of d) thresh) (le_trans_clear (root_of d) (root_of limit) thresh (root-clear d f c) limit_root (above_clear thresh sign) (root_monotone d limit f double (clear-has_root d c) (is_test (le d limit) g)) (is_test (le (root_of limit) thresh) h));
+        }
 
-pub no-low : (thresh : Float) → Low thresh (zero' ⊘ zero')
-no-low thresh = record { within = λ d f c g. clash nan_is (right_number d (zero' ⊘ zero') g) }
+    high_limit : lt thresh (root_of limit) ≡ true → High thresh limit
+    high_limit h =
+        record {
+          beyond = λ d f c g. lt_not_le thresh (root_of d) (above_clear thresh sign) (root-clear d f c) (lt_le_trans thresh (root_of limit) (root_of d) (above_clear thresh sign) limit_root (root-clear d f c) h (root_monotone limit d double f (clear-has_root limit (above_clear limit above)) (is_test (le limit d) g)));
+        }
 
-pub no-high : (thresh : Float) → High thresh (zero' ⊘ zero')
-no-high thresh = record { beyond = λ d f c g. clash nan_is (left-number (zero' ⊘ zero') d g) }
+  -- a fact about limits that both have, the limit where it settles something and the NaN
+  of_both : (P : Float → Type 0) → P no_limit → (test : Bool) → (lt zero' thresh ≡ true → lt zero' limit ≡ true → test ≡ true → P limit) → P (settled thresh limit test)
+  unfolding settled
+  of_both P none test some = go (lt zero' thresh) refl (lt zero' limit) refl test refl
+    where
+      go : (a : Bool) → lt zero' thresh ≡ a → (b : Bool) → lt zero' limit ≡ b → (c : Bool) → test ≡ c → P (cond (a && (b && c)) limit no_limit)
+      go true h true g true f = some h g f
+      go true h true g false f = none
+      go true h false g c f = none
+      go false h b g c f = none
+
+  pub low_settles : {root low : Float} → root ≡ root_of limit → low ≡ settled thresh limit (le root thresh) → Low thresh low
+  low_settles r e = rw (e, r) (of_both (Low thresh) (no-low thresh) (le (root_of limit) thresh) low_limit)
+
+  pub high_settles : {root high : Float} → root ≡ root_of limit → high ≡ settled thresh limit (lt thresh root) → High thresh high
+  high_settles r e = rw (e, r) (of_both (High thresh) (no-high thresh) (lt thresh (root_of limit)) high_limit)

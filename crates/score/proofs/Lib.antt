@@ -1,3 +1,3 @@
-pub mod Walk
 pub mod Bounds
+pub mod Walk
 pub mod Least

@@ -1,11 +1,10 @@
 -- `score::least_sum` meets its contract. Assumes nothing.
-use Rattle.score.proofs.Least.{Least}
-use lib.ListN.{length}
-use Prim.Native.Nat.{◌≤◌, ◌-◌}
+use lib.ListN.{take}
+use mathlib.Core.List.{map}
+use Rattle.root.specs.Root.{root_of}
+use Rattle.book.specs.Score.{squares_in}
+use Rattle.score.specs.Limits.{Under}
 use Rattle.score.proofs.least_sum.Given as goal
 
-abbrev pub invariant-loop-i : goal.invariant-loop-i
-invariant-loop-i l = (l.i ≤ length l.squares) × Least l.limits.thresh l.squares l.sum l.i
-
-abbrev pub decreases-loop-i : goal.decreases-loop-i
-decreases-loop-i l = length l.squares - l.i
+abbrev pub invariant-loop-q : goal.invariant-loop-q
+invariant-loop-q l = Under l.sum (squares_in l.limits.thresh (map root_of (take l.q-index l.squares)))

@@ -1,14 +1,12 @@
 -- `score::rms` meets its contract. Assumes nothing.
-use lib.Ieee.{nan_bits}
-use Rattle.score.proofs.Walk.{rms-none, rms_some}
+use mathlib.Core.Path.{◌∙◌}
+use native.Mathlib.Omega.{arith}
+use borrow.Author.Tests.{ne_eqb}
+use Rattle.book.specs.Score.{rms_of}
+use Rattle.score.proofs.Walk.{squares_looked_at}
 use Rattle.score.proofs.rms.Goals as goal
 
-pub float_from_bits-result : goal.float_from_bits-result
-unfolding nan_bits
-float_from_bits-result c = tt
-
-pub returns-then-count-eq0 : goal.returns-then-count-eq0
-returns-then-count-eq0 c = rms-none _ c.if-count-eq0.true
-
 pub returns : goal.returns
-returns c = rms_some _ c.if-count-eq0.false c.sum_squares.ensures c.sqrt.ensures
+unfolding rms_of
+returns c =
+    c.sqrt.ensures ∙ rw (c.sum_squares.ensures, squares_looked_at c.of.result.high_settles _ c.type_inv.squares, c.of.ensures, ne_eqb c.args.count 0 (λ e. omega (arith, e)))
