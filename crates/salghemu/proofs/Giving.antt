@@ -10,8 +10,6 @@ use borrow.Rule.Slice.PartMut.{mid_of, put_mid}
 use lib.ListN.{length, take, drop, length-append}
 use lib.Seq.{take_at}
 use lib.Ieee.{Float}
-use Rattle.rule.specs.Refusal.{NONE}
-use Rattle.rule.specs.Answer.{Answer, refused}
 use Rattle.rule.specs.Lists.{for_each, replaced, filled}
 use Rattle.rule.proofs.Lists.{for_each-length, part_replaced, filled_is, filled-whole, places_count}
 use Rattle.sheet.specs.Marks.{marks_of}
@@ -22,51 +20,12 @@ use Rattle.book.specs.Score.{close, count_in}
 use Rattle.book.specs.Book.{Winner}
 use Rattle.book.proofs.Clear.{count-within}
 use Rattle.fields.specs.Fields.{bytes_of, double_bytes}
-use Rattle.fields.proofs.Writing.{word_wide, double_wide, laid_none, laid_more, laid_all}
+use Rattle.fields.proofs.Writing.{bytes_wide, double_wide, laid_none, laid_more, laid_all}
 use Rattle.records.specs.declared.options.RansacOptions.{RansacOptions}
 use Rattle.measure.specs.Distances.{distances_of}
 use Rattle.score.specs.Places.{indices_in, cramped, indexed, index_count}
 use Rattle.measure.proofs.Squares.{distances-count}
-use Rattle.pick.specs.Run.{view_winner, view_best, book_of}
-use Rattle.pick.specs.declared.run_state.Winner as State
-use Rattle.pick.specs.declared.run_state.Best.TheVariants.{Nothing, Held}
-use Rattle.pick.specs.declared.run_state.State.{State}
-use Rattle.salghemu.specs.Whole.{after_tests, won_by, result_of, number_of, winner_bytes, index_bytes, laid_over, written, Gave, view_ran}
-use Rattle.salghemu.specs.declared.Ran.{Ran}
-
--- ---- by the tests
-
-module _ (o : RansacOptions) (l : List Float) (winner indices : List ℕ) where
-  pub gave_number : {r : ℕ} (k : ℕ) → r ≡ k → Gave (refused k) o l winner indices r winner indices
-  unfolding number_of written
-  gave_number k e = record { number_is = e; winner_is = refl; indices_is = refl }
-
-  module _ (a : Answer (Winner Model)) where
-    pub gave_refused : {r : ℕ} (k : ℕ) → r ≡ k → (r ≡ 0 → ⊥) → Gave (after_tests k a) o l winner indices r winner indices
-    unfolding after_tests
-    gave_refused zero e h = absurd (h e)
-    gave_refused (suc k) e h = gave_number (suc k) e
-
-    pub gave_passed : (k : ℕ) {r : ℕ} {winner' indices' : List ℕ} → 0 ≡ k → Gave a o l winner indices r winner' indices' → Gave (after_tests k a) o l winner indices r winner' indices'
-    unfolding after_tests
-    gave_passed zero e g = g
-    gave_passed (suc k) e g = absurd (omega (arith, e))
-
-  -- ---- by how the trials ended
-
-  pub gave_broken : {ran : Ran} {k : ℕ} → ran ≡ Ran.Broken k → Gave (result_of (view_ran ran)) o l winner indices k winner indices
-  unfolding result_of view_ran
-  gave_broken {ran} {k} e = rw e (gave_number k refl)
-
-  pub gave_none : {ran : Ran} {s : State} → ran ≡ Ran.Stopped s → s.winner ≡ Nothing → Gave (result_of (view_ran ran)) o l winner indices NONE winner indices
-  unfolding result_of view_ran book_of view_best won_by
-  gave_none e h = rw (e, h) (gave_number NONE refl)
-
-  pub gave_held : {ran : Ran} {s : State} → ran ≡ Ran.Stopped s → (w : State.Winner) → s.winner ≡ Held w → {winner' indices' : List ℕ}
-      → winner' ≡ laid_over (winner_bytes (view_winner w)) winner → indices' ≡ laid_over (index_bytes o l w.model) indices
-      → Gave (result_of (view_ran ran)) o l winner indices 0 winner' indices'
-  unfolding result_of view_ran book_of view_best won_by view_winner number_of written
-  gave_held e w h p q = rw (e, h) (record { number_is = refl; winner_is = p; indices_is = q })
+use Rattle.salghemu.specs.Whole.{winner_bytes, index_bytes, laid_over}
 
 -- ---- the winner's record
 
@@ -74,7 +33,7 @@ winner_wide : (w : Winner Model) → length (winner_bytes w) ≡ 88
 unfolding winner_bytes model_numbers
 winner_wide w =
     length-append (bytes_of 4 w.count) _
-    ∙ rw (length-append (bytes_of 4 w.number), length-append (double_bytes w.rms), word_wide w.count, word_wide w.number, double_wide w.rms, for_each-length double_bytes 8 double_wide (model_numbers w.model))
+    ∙ rw (length-append (bytes_of 4 w.number), length-append (double_bytes w.rms), bytes_wide 4 w.count, bytes_wide 4 w.number, double_wide w.rms, for_each-length double_bytes 8 double_wide (model_numbers w.model))
 
 pub winner_laid : (w : Winner Model) (l : List ℕ) {xs : List ℕ} → xs ≡ winner_bytes w → put_mid 0 (88 - 0) l xs ≡ laid_over (winner_bytes w) l
 unfolding replaced laid_over
@@ -83,37 +42,41 @@ winner_laid w l {xs} e =
     part_replaced 0 88 xs l (zero-add (length xs) ∙ wide) ∙ rw (zero-add (length xs), e)
 
 module _ (w : Winner Model) (s : List ℕ) (room : length s ≡ 88) where
-  abbrev count-bytes : List ℕ
-  count-bytes = bytes_of 4 w.count
+  abbrev counts : List ℕ
+  counts = bytes_of 4 w.count ++ bytes_of 4 w.number
 
-  abbrev number-bytes : List ℕ
-  number-bytes = bytes_of 4 w.number
+  abbrev numbers : List ℕ
+  numbers = for_each double_bytes (model_numbers w.model)
 
-  abbrev double-bytes : List ℕ
-  double-bytes = for_each double_bytes (w.rms ∷ model_numbers w.model)
-
-  doubles_wide : length double-bytes ≡ 80
+  numbers_wide : length numbers ≡ 72
   unfolding model_numbers
-  doubles_wide = for_each-length double_bytes 8 double_wide (w.rms ∷ model_numbers w.model)
+  numbers_wide = for_each-length double_bytes 8 double_wide (model_numbers w.model)
 
-  parts : count-bytes ++ number-bytes ++ double-bytes ≡ winner_bytes w
-  unfolding winner_bytes for_each
-  parts = append_assoc count-bytes number-bytes double-bytes
+  parts : (counts ++ double_bytes w.rms) ++ numbers ≡ winner_bytes w
+  unfolding winner_bytes
+  parts = append_assoc counts (double_bytes w.rms) numbers ∙ append_assoc (bytes_of 4 w.count) (bytes_of 4 w.number) (double_bytes w.rms ++ numbers)
 
-  both_wide : length (count-bytes ++ number-bytes) ≡ 8
-  both_wide = rw (length-append, word_wide w.count, word_wide w.number)
+  counts_wide : length counts ≡ 8
+  counts_wide = rw (length-append, bytes_wide 4 w.count, bytes_wide 4 w.number)
 
-  pub winner_put : {a b c : List ℕ} → a ≡ filled count-bytes (mid_of 0 (4 - 0) s) → b ≡ filled number-bytes (mid_of 4 (8 - 4) (put_mid 0 (4 - 0) s a))
-      → c ≡ filled double-bytes (mid_of 8 (88 - 8) (put_mid 4 (8 - 4) (put_mid 0 (4 - 0) s a) b))
-      → put_mid 8 (88 - 8) (put_mid 4 (8 - 4) (put_mid 0 (4 - 0) s a) b) c ≡ winner_bytes w
-  winner_put d e f =
-      let p = word_wide w.count in
-      let q = word_wide w.number in
-      let one = laid_more s (laid_none s) (omega arith) 0 4 count-bytes refl (rw p (omega arith)) (omega (arith, room)) d in
-      let two = laid_more s one (rw p (omega (arith, room))) 4 8 number-bytes p (rw q (omega arith)) (omega (arith, room)) e in
-      let three = laid_more s two (rw both_wide (omega (arith, room))) 8 88 double-bytes both_wide (rw doubles_wide (omega arith)) (omega (arith, room)) f in
-      let wide : length (count-bytes ++ number-bytes ++ double-bytes) ≡ 88 = ap length parts ∙ winner_wide w in
-      laid_all s three (omega (arith, wide, room)) ∙ filled-whole (count-bytes ++ number-bytes ++ double-bytes) s (room ∙ sym wide) ∙ parts
+  front_wide : length (counts ++ double_bytes w.rms) ≡ 16
+  front_wide = rw (length-append, counts_wide, double_wide w.rms)
+
+  pub winner_put : {a b c d : List ℕ}
+      → a ≡ filled (bytes_of 4 w.count) (mid_of 0 (4 - 0) s)
+      → b ≡ filled (bytes_of 4 w.number) (mid_of 4 (8 - 4) (put_mid 0 (4 - 0) s a))
+      → c ≡ filled (double_bytes w.rms) (mid_of 8 (16 - 8) (put_mid 4 (8 - 4) (put_mid 0 (4 - 0) s a) b))
+      → {ns : List Float} → ns ≡ model_numbers w.model → d ≡ filled (for_each double_bytes ns) (mid_of 16 (88 - 16) (put_mid 8 (16 - 8) (put_mid 4 (8 - 4) (put_mid 0 (4 - 0) s a) b) c))
+      → put_mid 16 (88 - 16) (put_mid 8 (16 - 8) (put_mid 4 (8 - 4) (put_mid 0 (4 - 0) s a) b) c) d ≡ winner_bytes w
+  winner_put {a = a} {b = b} {c = c} e f g n h =
+      let p = bytes_wide 4 w.count in
+      let q = bytes_wide 4 w.number in
+      let one = laid_more s (laid_none s) (omega arith) 0 4 (bytes_of 4 w.count) refl (rw p (omega arith)) (omega (arith, room)) e in
+      let two = laid_more s one (rw p (omega (arith, room))) 4 8 (bytes_of 4 w.number) p (rw q (omega arith)) (omega (arith, room)) f in
+      let three = laid_more s two (rw counts_wide (omega (arith, room))) 8 16 (double_bytes w.rms) counts_wide (rw (double_wide w.rms) (omega arith)) (omega (arith, room)) g in
+      let four = laid_more s three (rw front_wide (omega (arith, room))) 16 88 numbers front_wide (rw numbers_wide (omega arith)) (omega (arith, room)) (h ∙ ap (λ (xs : List Float). filled (for_each double_bytes xs) (mid_of 16 (88 - 16) (put_mid 8 (16 - 8) (put_mid 4 (8 - 4) (put_mid 0 (4 - 0) s a) b) c))) n) in
+      let wide : length ((counts ++ double_bytes w.rms) ++ numbers) ≡ 88 = ap length parts ∙ winner_wide w in
+      laid_all s four (omega (arith, wide, room)) ∙ filled-whole ((counts ++ double_bytes w.rms) ++ numbers) s (room ∙ sym wide) ∙ parts
 
 -- ---- the indices
 
@@ -156,5 +119,5 @@ module _ (o : RansacOptions) (h : Model) (l : List Float) (entry : List ℕ) (sh
     indices_laid room e =
         let m = xs_few in
         let a = distances-count o.ratio l h in
-        let b = for_each-length (bytes_of 4) 4 word_wide xs in
+        let b = for_each-length (bytes_of 4) 4 (bytes_wide 4) xs in
         e ∙ ap (λ ys. filled (for_each (bytes_of 4) ys) entry) indices-taken ∙ filled_is (for_each (bytes_of 4) xs) entry (omega (arith, m, a, b, room))

@@ -9,7 +9,8 @@ use borrow.Author.Tests.{le-leb, lt-leb}
 use lib.ListN.{length, take, drop, length-map, get_or-map, drop_of_length-le}
 use lib.Seq.{drop-cons}
 use lib.Ieee.{Float}
-use Rattle.rule.specs.Answer.{refused, gives}
+use Rattle.std.specs.Prelude.{Ok}
+use Rattle.rule.specs.Answer.{Answer, refused, gives}
 use Rattle.rule.specs.Order.{first_failed}
 use Rattle.rule.specs.Lists.{parts_of}
 use Rattle.rule.proofs.Lists.{parts_count, part_at}
@@ -27,13 +28,10 @@ use Rattle.records.specs.declared.options.RansacOptions.{RansacOptions}
 use Rattle.judge.specs.Judging.{rule_of, Call, judge_of, judge_tested}
 use Rattle.pick.specs.Run.{Run, Booking, book_of, view_state}
 use Rattle.pick.specs.Opening.{fresh_run}
-use Rattle.pick.specs.Trial.{booking_of, tried_in, step_booking, next_of, view_next}
+use Rattle.pick.specs.Trial.{booking_of, tried_in, step_booking, next_of}
 use Rattle.pick.specs.declared.run_state.State.{State}
-use Rattle.pick.specs.declared.advancing.Next.{Next}
-use Rattle.pick.specs.declared.advancing.Next.TheVariants as Nexts
 use Rattle.pick.proofs.Order.{same-judged}
 use Rattle.salghemu.specs.Whole.{records_in, call_with, judged_in, stop_of, view_ran}
-use Rattle.salghemu.specs.declared.Ran.TheVariants as Ran
 
 -- ---- what a step without an outcome says
 
@@ -85,7 +83,7 @@ module _ (o : RansacOptions) (l : List Float) (table trials : List ℕ) where
     pub owed : run_over (rule_of o) (book_of s) (drop i js) ≡ whole
 
   pub going_none : {k : ℕ} (s : State) → view_state s ≡ fresh_run o k → k ≡ n → Going 0 s
-  unfolding view_state fresh_run stop_of
+  unfolding fresh_run stop_of
   going_none s e m =
       let b : book_of s ≡ fresh (rule_of o) = ap (λ r. r.book) e in
       record {
@@ -96,15 +94,14 @@ module _ (o : RansacOptions) (l : List Float) (table trials : List ℕ) where
       }
 
   module _ {i : ℕ} {s : State} (g : Going i s) where
-    pub going_late : s.bound ≤ s.read → view_ran (Ran.Stopped s) ≡ whole
-    unfolding view_ran has_ended ended_at book_of
-    going_late h = run_late (rule_of o) (book_of s) (le-leb s.bound s.read h) (drop i js) ∙ g.owed
+    pub going_late : s.counts.bound ≤ s.counts.read → view_ran (Ok s) ≡ whole
+    unfolding has_ended ended_at
+    going_late h = run_late (rule_of o) (book_of s) (le-leb s.counts.bound s.counts.read h) (drop i js) ∙ g.owed
 
-    pub going_out : length trials / 152 ≤ i → view_ran (Ran.Stopped s) ≡ whole
-    unfolding view_ran
+    pub going_out : length trials / 152 ≤ i → view_ran (Ok s) ≡ whole
     going_out h = run_out (rule_of o) (book_of s) (drop i js) (let past : length js ≤ i = rw js_count h in drop_of_length-le js past) ∙ g.owed
 
-    module _ (valid : 0 ≡ first_failed (options_tests o)) (tested : 0 ≡ first_failed (marks_tests l)) (early : s.read < s.bound) (here : i < length trials / 152) where
+    module _ (valid : 0 ≡ first_failed (options_tests o)) (tested : 0 ≡ first_failed (marks_tests l)) (early : s.counts.read < s.counts.bound) (here : i < length trials / 152) where
       abbrev bytes : List ℕ
       bytes = take 152 (drop (152 * i) trials)
 
@@ -112,8 +109,8 @@ module _ (o : RansacOptions) (l : List Float) (table trials : List ℕ) where
       next = entered (rule_of o) (book_of s) (judged bytes)
 
       still : has_ended (book_of s) ≡ false
-      unfolding has_ended ended_at book_of
-      still = lt-leb s.bound s.read early
+      unfolding has_ended ended_at
+      still = lt-leb s.counts.bound s.counts.read early
 
       called_is : called (rule_of o) (book_of s) (judged bytes) ≡ next
       called_is = called_open (rule_of o) (book_of s) (judged bytes) still
@@ -133,24 +130,22 @@ module _ (o : RansacOptions) (l : List Float) (table trials : List ℕ) where
       owed_is : run_over (rule_of o) (book_of s) (judged bytes ∷ drop (i + 1) js) ≡ whole
       owed_is = ap (run_over (rule_of o) (book_of s)) (sym (js_from i here)) ∙ g.owed
 
-      module _ (r : Next) {w : ℕ} (step : view_next r ≡ next_of (step_booking (view_state s) (record { bytes = take w (drop (152 * i) trials); marks = l; stops = table }))) (wide : w ≡ 152) where
-        of_152 : view_next r ≡ next_of (step_booking (view_state s) call)
+      module _ {a : Answer Run} {w : ℕ} (step : a ≡ next_of (step_booking (view_state s) (record { bytes = take w (drop (152 * i) trials); marks = l; stops = table }))) (wide : w ≡ 152) where
+        of_152 : a ≡ next_of (step_booking (view_state s) call)
         of_152 = step ∙ ap (λ (k : ℕ). next_of (step_booking (view_state s) (record { bytes = take k (drop (152 * i) trials); marks = l; stops = table }))) wide
 
-        nexts : view_next r ≡ next_of (booking_of (view_state s) next)
-        unfolding step_booking tried_in view_state
+        nexts : a ≡ next_of (booking_of (view_state s) next)
+        unfolding step_booking
         nexts = of_152 ∙ ap (λ (x : Entered Model). next_of (booking_of (view_state s) x)) tried_is
 
-        pub going_broken : {k : ℕ} → r ≡ Nexts.Refused k → view_ran (Ran.Broken k) ≡ whole
-        unfolding view_ran view_next booking_of
+        pub going_broken : {k : ℕ} → a ≡ refused k → broken k ≡ whole
         going_broken {k} e =
-            let told = next_refused (booking_of (view_state s) next) k (ap view_next (sym e) ∙ nexts) in
+            let told = next_refused (booking_of (view_state s) next) k (sym e ∙ nexts) in
             ap broken told.1 ∙ run-broken (rule_of o) (book_of s) still (drop (i + 1) js) (judged bytes) told.0 ∙ owed_is
 
-        pub going_on : {t : State} → r ≡ Nexts.Read t → Going (i + 1) t
-        unfolding view_next view_state booking_of
+        pub going_on : {t : State} → a ≡ gives (view_state t) → Going (i + 1) t
         going_on {t} e =
-            let told = next_read (booking_of (view_state s) next) (view_state t) (ap view_next (sym e) ∙ nexts) in
+            let told = next_read (booking_of (view_state s) next) (view_state t) (sym e ∙ nexts) in
             let run = told.1 in
             let book : book_of t ≡ next.book = ap (λ (x : Run). x.book) run in
             record {
@@ -167,7 +162,7 @@ module _ (o : RansacOptions) (l : List Float) (table trials : List ℕ) where
 
 module _ (o : RansacOptions) (k : ℕ) (s₀ : State) (opened : view_state s₀ ≡ fresh_run o k) where
   own-options : s₀.options ≡ o
-  unfolding view_state fresh_run
+  unfolding fresh_run
   own-options = ap (λ (r : Run). r.options) opened
 
   module _ (l : List Float) (table trials : List ℕ) {i : ℕ} {s : State} where

@@ -1,4 +1,3 @@
-pub mod Going
-pub mod Later
 pub mod Giving
+pub mod Going
 pub mod Chain

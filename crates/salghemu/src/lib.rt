@@ -73,6 +73,7 @@ fn put_indices(o: RansacOptions, h: Model, marks: &[f64], indices: &mut [u8])
 
 // The tests after the marks' length, in order: refused with 6, 7, 8, 1 or 9. The marks' numbers have the
 // right shape.
+#[tactic(auto, unfolding(rule::specs::Order::first_failed, rule::specs::Order::room, crate::specs::Whole::later_tests, crate::specs::Whole::stop_bytes, crate::specs::Whole::trial_bytes, sheet::specs::Marks::marks_tests, sheet::specs::Marks::shape, sheet::specs::Marks::point, sheet::specs::Marks::few), using(sheet::proofs::Places::count))]
 fn check_later(
     numbers: &[f64],
     stops: usize,
@@ -126,6 +127,18 @@ fn won(
     last.winner.ok_or(Refusal::NoWinner)
 }
 
+// Writes what a winner gives: its record, and the indices of its marks.
+fn give(o: RansacOptions, w: Winner, numbers: &[f64], winner: &mut [u8], indices: &mut [u8])
+    requires numbers_len_bound { length numbers.now ≤ 8000 }
+    requires in_bounds { 88 ≤ length winner.old }
+    requires numbers_in_bounds { 4 * length (marks_of numbers.now) ≤ length indices.old }
+    ensures winner_after { winner.new ≡ laid_over (winner_bytes (view_winner w)) winner.old }
+    ensures indices_after { indices.new ≡ laid_over (index_bytes o numbers.now w.model) indices.old }
+{
+    put_winner(&mut winner[0..88], w);
+    put_indices(o, w.model, numbers, indices);
+}
+
 // The run with options that were read.
 fn run_options(
     o: RansacOptions,
@@ -148,8 +161,7 @@ fn run_options(
     records::read_marks(marks, &mut room);
     let numbers = &room[..marks.len() / 8];
     let w = won(o, numbers, stops, trials, winner.len(), indices.len())?;
-    put_winner(&mut winner[0..88], w);
-    put_indices(o, w.model, numbers, indices);
+    give(o, w, numbers, winner, indices);
     Ok(())
 }
 
