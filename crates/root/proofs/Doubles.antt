@@ -8,7 +8,7 @@ use native.Mathlib.Nat.{mod-eq_of_lt, lt_irrefl, lt_trans, zero-lt-suc, mul-div_
 use native.Mathlib.Omega.{arith}
 use borrow.Author.Tests.{lt-ltb, lt-leb, le-leb, ne_eqb}
 use lib.Dec.{T, leb, eqb, lit<}
-use lib.Ieee.{Float, nan, inf, fin, binary64, down, odd, of_fields, of_bits, to_bits, nan_bits, fits, is_nan, lt, le, eq}
+use lib.Ieee.{Float, nan, inf, fin, binary64, down, odd, of_fields, of_bits, to_bits, fits, is_nan, lt, le, eq}
 use lib.Ieee.Fits.{down_pos}
 use lib.Ieee.Bits.{of_bits-to_bits}
 use lib.Ieee.Exact.{HasValue, odd_sign}
@@ -16,11 +16,9 @@ use lib.Ieee.Positive.{positive}
 use Rattle.rule.specs.Refusal.{NUMBER}
 use Rattle.rule.specs.Answer.{refused, gives}
 use Rattle.rule.proofs.Tests.{le_or_gt, or_true, clash}
-use Rattle.rule.proofs.Nan.{no_nan_bits}
 use Rattle.rule.proofs.Zero.{zero_lt, zero_eq, zeros_eq}
 use Rattle.root.specs.Double.{units}
 use Rattle.root.specs.Root.{significand, exponent, root_bits, has_root, root_of, root_answer}
-use Rattle.root.proofs.Bits.{root_bits_finite}
 use Rattle.root.proofs.Patterns.{value, exponent_is, significand-low, significand-high}
 
 -- ---- what comparisons with 0 and with infinity say
@@ -49,7 +47,7 @@ no_nan (fin s m e) p = tt
 -- the four ways through `sqrt`
 
 pub root_positive : (a : Float) → T (positive a) → root_of a ≡ of_bits binary64 (root_bits (to_bits binary64 a))
-unfolding root_of has_root
+unfolding root_of
 root_positive nan p = absurd p
 root_positive (inf s) p = absurd p
 root_positive (fin true m e) p = absurd p
@@ -145,13 +143,7 @@ pattern_finite a f p =
       ⊎_elim (λ (g : 2047 * 2 ^ 52 ≤ to_bits binary64 a). absurd (beyond (to_bits binary64 a) g q)) (λ g. g) (le_or_gt (2047 * 2 ^ 52) (to_bits binary64 a)),
     )
 
-no_nan_pattern : (n : ℕ) → n < 2047 * 2 ^ 52 → T (not (nan_bits binary64 n))
-no_nan_pattern n h = no_nan_bits n (omega arith)
-
 -- ---- from the root's pattern to the root
-
-pub root_no_nan : (b p : ℕ) → (0 < b) × (b < 2047 * 2 ^ 52) → p ≡ root_bits b → T (not (nan_bits binary64 p))
-root_no_nan b p f e = rw e (no_nan_pattern _ (root_bits_finite _ f.0 f.1).1)
 
 pub root-read : (a : Float) (p : ℕ) → T (positive a) → p ≡ root_bits (to_bits binary64 a) → of_bits binary64 p ≡ root_of a
 root-read a p q e = ap (of_bits binary64) e ∙ sym (root_positive a q)
