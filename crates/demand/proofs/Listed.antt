@@ -8,7 +8,9 @@ use lib.Dec.{T}
 use lib.ListN.{length, get_or, take, drop}
 use lib.Seq.{take_at, drop_at}
 use lib.Ieee.{Float}
-use Rattle.rule.specs.Answer.{gives}
+use Rattle.std.specs.Prelude.{Result, Ok}
+use Rattle.rule.specs.declared.Refusal.{Refusal}
+use Rattle.rule.specs.Answer.{gives, answered}
 use Rattle.rule.specs.Order.{first_failed, decided, if_passed}
 use Rattle.rule.specs.Arith.{clear}
 use Rattle.rule.proofs.Order.{decided-gives, done, first_passed, decided-none}
@@ -30,17 +32,14 @@ use Rattle.score.specs.Places.{indices_in}
 use Rattle.measure.proofs.Squares.{distances-count, distance-at}
 use Rattle.salghemu.specs.Whole.{laid_over}
 use Rattle.judge.specs.Judging.{rule_of, Call, call_tests, worth, judged_by, judge_of, beyond_by, judgement_of}
-use Rattle.pick.specs.Run.{Run, Answer, view_best, book_of, view_state, view_tried}
-use Rattle.pick.specs.Opening.{opening_tests, fresh_run, opening_answer, record_answer, view_opened}
-use Rattle.pick.specs.declared.opening.Opened.TheVariants.{Open}
-use Rattle.pick.specs.Trial.{booking_of, tried_in, answer_of, tried_with, trial_answer}
-use Rattle.pick.specs.Indices.{marks_order, under_answer, under_after, winner_answer, winner_after, indices_answer, indices_after, view_indexed}
+use Rattle.pick.specs.Run.{Run, Answer, view_best, book_of, view_state}
+use Rattle.pick.specs.Opening.{opening_tests, fresh_run, opening_answer, record_answer}
+use Rattle.pick.specs.Trial.{tried_with, trial_answer}
+use Rattle.pick.specs.Indices.{marks_order, under_answer, under_after, winner_answer, winner_after, indices_answer, indices_after}
 use Rattle.pick.specs.declared.run_state.State.{State}
-use Rattle.pick.specs.declared.indices.Indexed.{Indexed}
-use Rattle.pick.specs.declared.indices.Indexed.TheVariants.{Written}
 use Rattle.judge.proofs.Left.{by_number}
 use Rattle.pick.proofs.Order.{opened_iters, call_short}
-use Rattle.pick.proofs.View.{indexed-one, state_onto, tried_onto}
+use Rattle.pick.proofs.View.{indexed-one, state_onto, trial_onto}
 use Rattle.pick.proofs.Accepted.{order_passes, steps_as_trial}
 use Rattle.demand.specs.Demand.{OpensBy, Told, view_told, Tried, Stepped, Indexes, Opening, Carries, judged, CarriedBy, Exactly, IndicesGiven, IndexedAs, AfterCalls}
 use Rattle.demand.proofs.Placed.{places_exactly}
@@ -48,14 +47,14 @@ use Rattle.demand.proofs.Placed.{places_exactly}
 -- ---- the opening
 
 pub opening-accepted : (o : RansacOptions) (marks : List Float) (stops : List ℕ) → first_failed (opening_tests o marks stops) ≡ 0 → (s₀ : State) × Opening o marks stops s₀
-unfolding view_opened opening_answer
+unfolding opening_answer
 opening-accepted o marks stops h =
     let s = state_onto (fresh_run o (length (marks_of marks))) in
     (s.0, ap gives s.1 ∙ decided-none (fresh_run o (length (marks_of marks))) (sym h))
 
 -- by a record
-pub record_opens : (bytes : List ℕ) (marks : List Float) (stops : List ℕ) (s₀ : State) → OpensBy bytes marks stops (Open s₀) → Opening (options_of bytes) marks stops s₀
-unfolding view_opened record_answer opening_answer options_record
+pub record_opens : (bytes : List ℕ) (marks : List Float) (stops : List ℕ) (s₀ : State) → OpensBy bytes marks stops (Ok s₀) → Opening (options_of bytes) marks stops s₀
+unfolding record_answer opening_answer options_record
 record_opens bytes marks stops s₀ e =
     let d = decided-gives (first_failed (options_record bytes ∷ opening_tests (options_of bytes) marks stops)) e in
     let p = first_passed (options_record bytes) (opening_tests (options_of bytes) marks stops) tt d.0 in
@@ -66,7 +65,7 @@ module _ (o : RansacOptions) (marks : List Float) (stops : List ℕ) (s₀ : Sta
   n = length (marks_of marks)
 
   opened : (first_failed (opening_tests o marks stops) ≡ 0) × (view_state s₀ ≡ fresh_run o n)
-  unfolding view_opened opening_answer
+  unfolding opening_answer
   opened = decided-gives (first_failed (opening_tests o marks stops)) opening
 
   -- ---- a trial call, as the book's rule asks for it
@@ -75,11 +74,11 @@ module _ (o : RansacOptions) (marks : List Float) (stops : List ℕ) (s₀ : Sta
   Of s = (s.options ≡ o) × (s.n ≡ n)
 
   of_opened : Of s₀
-  unfolding view_state fresh_run
+  unfolding fresh_run
   of_opened = (ap (λ (r : Run). r.options) opened.1, ap (λ (r : Run). r.n) opened.1)
 
   fresh_opened : book_of s₀ ≡ fresh (rule_of o)
-  unfolding view_state fresh_run
+  unfolding fresh_run
   fresh_opened = ap (λ (r : Run). r.book) opened.1
 
   entered_of : Answer → Entered Model
@@ -87,13 +86,13 @@ module _ (o : RansacOptions) (marks : List Float) (stops : List ℕ) (s₀ : Sta
 
   -- by the state's own options and n
   as_opened : (s : State) (c : Call) → Of s → trial_answer (view_state s) c ≡ tried_with (view_state s) (judgement_of o n c)
-  unfolding trial_answer view_state
+  unfolding trial_answer
   as_opened s c of =
       ap (λ (p : RansacOptions). tried_with (view_state s) (judgement_of p s.n c)) of.0 ∙ ap (λ (k : ℕ). tried_with (view_state s) (judgement_of o k c)) of.1
 
   step : (s t : State) (c : Call) (x : Told) → Of s → Tried s c t x
       → Of t × ((record { book = book_of t; outcome = (view_told x).outcome } ≡ tried (rule_of o) (book_of s) (judge_of o n c)) × ((view_told x).beyond ≡ cond (is_closed (book_of s)) 0 (beyond_by (call_tests n c) c)))
-  unfolding view_tried view_told view_state tried_with tried_in answer_of booking_of entered_of
+  unfolding view_told entered_of
   step s t c x of e =
       let a = e ∙ as_opened s c of in (
         (ap (λ (a : Answer). a.run.options) a ∙ of.0, ap (λ (a : Answer). a.run.n) a ∙ of.1),
@@ -156,28 +155,27 @@ module _ (o : RansacOptions) (marks : List Float) (stops : List ℕ) (s₀ : Sta
         order = first_failed (marks_order s.n l (length entry))
 
         answer_is : indices_answer (view_state s) l entry ≡ decided order (length xs)
-        unfolding indices_answer view_state book_of winner_answer under_answer
+        unfolding indices_answer winner_answer under_answer
         answer_is = rw (holds, of.0)
 
         after_is : indices_after (view_state s) l entry ≡ if_passed order (xs ++ drop (length xs) entry) entry
-        unfolding indices_after view_state book_of winner_after under_after
+        unfolding indices_after winner_after under_after
         after_is = rw (holds, of.0)
 
-        indices_exact : (after : List ℕ) (r : Indexed) → Indexes s l entry r after → (k : ℕ) → r ≡ Written k
+        indices_exact : (after : List ℕ) (r : Result ℕ Refusal) → Indexes s l entry r after → (k : ℕ) → r ≡ Ok k
             → Exactly (length (marks_of l)) (λ i. inlier o.ratio w.model o.thresh (mark_at l i)) (take k after) × (drop k after ≡ drop k entry)
-        unfolding view_indexed
         indices_exact after r call k e =
-            let d = decided-gives order (ap view_indexed (sym e) ∙ call.answers ∙ answer_is) in
+            let d = decided-gives order (ap answered (sym e) ∙ call.answers ∙ answer_is) in
             let whole : after ≡ xs ++ drop (length xs) entry = call.leaves ∙ after_is ∙ sym (done (xs ++ drop (length xs) entry) entry (sym d.0)) in
             let front : take k after ≡ xs = ap (take k) whole ∙ take_at xs (drop (length xs) entry) k (sym d.1) in
             let back : drop k after ≡ drop k entry = ap (drop k) whole ∙ drop_at xs (drop (length xs) entry) k (sym d.1) ∙ ap (λ j. drop j entry) (sym d.1) in
             (subst (λ ys. Exactly (length (marks_of l)) (λ i. inlier o.ratio w.model o.thresh (mark_at l i)) ys) (sym front) exact, back)
 
         -- where the order passes they are given
-        given-all : 0 ≡ order → (after : List ℕ) (r : Indexed) → Indexes s l entry r after → (r ≡ Written (length xs)) × (after ≡ laid_over xs entry)
-        unfolding view_indexed laid_over
+        given-all : 0 ≡ order → (after : List ℕ) (r : Result ℕ Refusal) → Indexes s l entry r after → (r ≡ Ok (length xs)) × (after ≡ laid_over xs entry)
+        unfolding laid_over
         given-all passed after r call =
-            (indexed-one r (Written (length xs)) (call.answers ∙ answer_is ∙ sym (decided-none (length xs) passed)), call.leaves ∙ after_is ∙ sym (done (xs ++ drop (length xs) entry) entry passed))
+            (indexed-one r (Ok (length xs)) (call.answers ∙ answer_is ∙ sym (decided-none (length xs) passed)), call.leaves ∙ after_is ∙ sym (done (xs ++ drop (length xs) entry) entry passed))
 
     -- over the opening's marks they are given
     pub given_as : IndexedAs s marks (indices_in o.thresh (distances_of o.ratio marks w.model))
@@ -187,7 +185,7 @@ module _ (o : RansacOptions) (marks : List Float) (stops : List ℕ) (s₀ : Sta
     unfolding indices_in count_in
     indices_of own =
         record {
-          written = λ entry after r call room_for. (given_as entry after r call room_for).0 ∙ ap Written (places_count (close o.thresh) 0 (distances_of o.ratio marks w.model) ∙ sym own);
+          written = λ entry after r call room_for. (given_as entry after r call room_for).0 ∙ ap Ok (places_count (close o.thresh) 0 (distances_of o.ratio marks w.model) ∙ sym own);
           given = λ l entry after r call k e. indices_exact l entry after r call k e;
         }
 
@@ -203,7 +201,6 @@ module _ (o : RansacOptions) (marks : List Float) (stops : List ℕ) (s₀ : Sta
   -- the state's winner is the book's
   winner_of : (s : State) (calls : List Call) → book_of s ≡ book_after (rule_of o) (fresh (rule_of o)) (judged o marks calls) → (w : Winner Model) → view_best s.winner ≡ held w
       → (book_after (rule_of o) (fresh (rule_of o)) (judged o marks calls)).winner ≡ held w
-  unfolding book_of
   winner_of s calls e w h = ap (λ (b : Book Model). b.winner) (sym e) ∙ h
 
   abbrev Own : Model → ℕ → Float → Type 0
@@ -230,7 +227,7 @@ module _ (o : RansacOptions) (marks : List Float) (stops : List ℕ) (s₀ : Sta
 -- ---- every call has an answer
 
 pub calls_answered : (s : State) (calls : List Call) → (z : State) × ((answers : List Told) × Called Tried s calls answers z)
-calls_answered = callable Tried (λ s c. answered (trial_answer (view_state s) c))
+calls_answered = callable Tried answering
   where
-    answered : (a : Answer) → (t : State) × ((x : Told) × (view_tried (record { state = t; outcome = x.outcome; beyond = x.beyond }) ≡ a))
-    answered a = let t = tried_onto a in (t.0.state, (record { outcome = t.0.outcome; beyond = t.0.beyond }, t.1))
+    answering : (s : State) (c : Call) → (t : State) × ((x : Told) × Tried s c t x)
+    answering s c = let t = trial_onto (view_state s) c in (t.0.state, (record { outcome = t.0.outcome; beyond = t.0.beyond }, t.1))

@@ -1,10 +1,13 @@
 -- The whole run of the third demand. Assumes nothing.
 use mathlib.Core.Path.{◌≡◌, refl, sym, ap, subst, ◌∙◌}
-use mathlib.Core.Bool.{Bool, true, false, not, ◌&&◌}
+use mathlib.Core.Bool.{true, false, not}
 use mathlib.Core.Logic.{⊎_elim}
-use mathlib.Core.List.{List, [], ◌∷◌, map}
+use mathlib.Core.List.{List, [], map}
 use Prim.Native.Nat.{ℕ, zero, suc, ◌*◌, ◌%◌, ◌≤◌}
 use native.Mathlib.Omega.{arith}
+use Rattle.std.proofs.lemmas.List.{take-map}
+use Rattle.std.proofs.lemmas.List.Folds.{list_all-map}
+use Rattle.std.proofs.lemmas.Simd.{map-map}
 use borrow.Author.Tests.{eq-eqb, le-ltb, eqb-true, ltb-false, not-false}
 use lib.Dec.{ltb, eqb}
 use lib.ListN.{length, take}
@@ -39,25 +42,10 @@ use Rattle.salghemu.specs.Whole.{Files, mark_bytes, stop_bytes, later_tests, ord
 use Rattle.demand.specs.Demand.{Opening, Told, view_told, Tried, Refuses, GivesOf, CalledAlike, AfterRun, by_tests, by_trials}
 use Rattle.demand.proofs.Listed.{opening-accepted, after_list, given_as, calls_answered}
 
--- ---- lists
-
-map_twice : {A B C : Type 0} (g : B → C) (f : A → B) (l : List A) → map (λ a. g (f a)) l ≡ map g (map f l)
-map_twice g f [] = refl
-map_twice g f (a ∷ l) = ap (λ r. g (f a) ∷ r) (map_twice g f l)
-
-map_take : {A B : Type 0} (f : A → B) (k : ℕ) (l : List A) → map f (take k l) ≡ take k (map f l)
-map_take f zero l = refl
-map_take f (suc k) [] = refl
-map_take f (suc k) (a ∷ l) = ap (λ r. f a ∷ r) (map_take f k l)
-
-every_map : {A B : Type 0} (test : B → Bool) (f : A → B) (l : List A) → every (λ a. test (f a)) l ≡ every test (map f l)
-every_map test f [] = refl
-every_map test f (a ∷ l) = ap (λ r. test (f a) && r) (every_map test f l)
-
 -- the run's trials are the calls
 pub stop_is : (p : RansacOptions) (m : ℕ) (f : Files) → stop_of p m (numbers_in f.marks) (words_of f.stops) (records_in f.trials) ≡ run_over (rule_of p) (fresh (rule_of p)) (map (judge_of p m) (calls_of f))
 unfolding stop_of judged_in calls_of
-stop_is p m f = ap (run_over (rule_of p) (fresh (rule_of p))) (map_twice (judge_of p m) (call_with (numbers_in f.marks) (words_of f.stops)) (records_in f.trials))
+stop_is p m f = ap (run_over (rule_of p) (fresh (rule_of p))) (sym (map-map (judge_of p m) (call_with (numbers_in f.marks) (words_of f.stops)) (records_in f.trials)))
 
 -- ---- what the run's tests say where they all pass
 
@@ -154,19 +142,19 @@ module _ (f : Files) (r : ℕ) (winner indices winner' indices' : List ℕ) wher
       listed = after_list p numbers (words_of f.stops) s₀ opening s (take read (calls_of f)) answers chain
 
       book_is : book_of s ≡ book_after (rule_of p) (fresh (rule_of p)) (take read js)
-      book_is = listed.1.booked ∙ ap (book_after (rule_of p) (fresh (rule_of p))) (map_take (judge_of p m) read (calls_of f))
+      book_is = listed.1.booked ∙ ap (book_after (rule_of p) (fresh (rule_of p))) (sym (take-map (judge_of p m) read (calls_of f)))
 
       outcomes_are : map (λ a. a.outcome) (map view_told answers) ≡ outcomes_of (rule_of p) (fresh (rule_of p)) (take read js)
       outcomes_are =
           ap (map (λ a. a.outcome)) listed.1.answered
           ∙ outcomes_of_lem (rule_of p) (judgement_of p m) (fresh (rule_of p)) (take read (calls_of f))
-          ∙ ap (outcomes_of (rule_of p) (fresh (rule_of p))) (map_take (judge_of p m) read (calls_of f))
+          ∙ ap (outcomes_of (rule_of p) (fresh (rule_of p))) (sym (take-map (judge_of p m) read (calls_of f)))
 
       none-refused : every (λ a. not (is_refusal a)) (outcomes_of (rule_of p) (fresh (rule_of p)) (take read js)) ≡ true → every (λ x. not (is_refusal (view_outcome x.outcome))) answers ≡ true
       unfolding view_told
       none-refused h =
-          every_map (λ a. not (is_refusal a.outcome)) view_told answers
-          ∙ every_map (λ a. not (is_refusal a)) (λ a. a.outcome) (map view_told answers)
+          sym (list_all-map (λ a. not (is_refusal a.outcome)) view_told answers)
+          ∙ sym (list_all-map (λ a. not (is_refusal a)) (λ a. a.outcome) (map view_told answers))
           ∙ ap (every (λ a. not (is_refusal a))) outcomes_are
           ∙ h
 
@@ -176,7 +164,6 @@ module _ (f : Files) (r : ℕ) (winner indices winner' indices' : List ℕ) wher
       by_winner (held w) e g = (g.number_is, g.winner_is, (indices_in p.thresh (distances_of p.ratio numbers w.model), (g.indices_is, given_as p numbers (words_of f.stops) s₀ opening s listed.0 w e)))
 
       winner_is : view_best s.winner ≡ (book_after (rule_of p) (fresh (rule_of p)) (take read js)).winner
-      unfolding book_of
       winner_is = ap (λ (b : Book Model). b.winner) book_is
 
       pub given_of : {result : Stopped Model} → result ≡ stopped (book_after (rule_of p) (fresh (rule_of p)) (take read js)) → Gives (result_of result) → GivesOf numbers s (view_best s.winner) r winner indices winner' indices'

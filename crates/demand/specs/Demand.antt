@@ -1,8 +1,10 @@
 -- The customer's third demand, of the sheet's picker: what holds after any list of trial calls from an accepted opening, and of the whole run. A premise on
 -- a call is that call's own promise, and the functions of src/, which only call through, promise just these: so the theorem is about the program, and a
 -- weaker contract breaks it. `proofs/Demanded.antt` proves `Demand3`.
-use Rattle.std.specs.Prelude.{◌≡◌, Bool, true, not, List, [], ◌∷◌, map, ℕ, ◌<◌, ◌≤◌, length, take, drop, Float}
+use Rattle.std.specs.Prelude.{◌≡◌, Bool, true, not, List, [], ◌∷◌, map, ℕ, ◌<◌, ◌≤◌, length, take, drop, Float, Result, Ok}
+use Rattle.rule.specs.declared.Refusal.{Refusal}
 use Rattle.rule.specs.Refusal.{NONE}
+use Rattle.rule.specs.Answer.{told, answered}
 use Rattle.rule.specs.Order.{first_failed}
 use Rattle.rule.specs.Lists.{every, for_each}
 use Rattle.sheet.specs.Marks.{marks_of, mark_at}
@@ -19,25 +21,21 @@ use Rattle.records.specs.declared.options.RansacOptions.{RansacOptions}
 use Rattle.measure.specs.Distances.{distances_of}
 use Rattle.judge.specs.Judging.{rule_of, Call, judge_of, judgement_of}
 use Rattle.pick.specs.Run.{view_best, book_of, view_state, view_outcome, view_tried}
-use Rattle.pick.specs.Opening.{opening_tests, opening_answer, record_answer, view_opened}
+use Rattle.pick.specs.Opening.{opening_tests, opening_answer, record_answer}
 use Rattle.pick.specs.Trial.{trial_answer, step_answer}
-use Rattle.pick.specs.Indices.{indices_answer, indices_after, view_indexed}
+use Rattle.pick.specs.Indices.{indices_answer, indices_after}
 use Rattle.pick.specs.declared.run_state.State.{State}
 use Rattle.pick.specs.declared.run_state.Outcome.{Outcome}
-use Rattle.pick.specs.declared.opening.Opened.{Opened}
-use Rattle.pick.specs.declared.opening.Opened.TheVariants.{Open}
-use Rattle.pick.specs.declared.indices.Indexed.{Indexed}
-use Rattle.pick.specs.declared.indices.Indexed.TheVariants.{Written}
 use Rattle.salghemu.specs.Whole.{Files, run_tests, calls_of, run_answer, Gave, winner_bytes, laid_over}
 
 -- ---- what the calls promise
 
 -- an opening that answers r, by the options type and by a record
-abbrev pub Opens : RansacOptions → (marks : List Float) → (stops : List ℕ) → Opened → Type 0
-Opens o marks stops r = view_opened r ≡ opening_answer o marks stops
+abbrev pub Opens : RansacOptions → (marks : List Float) → (stops : List ℕ) → Result State Refusal → Type 0
+Opens o marks stops r = told view_state r ≡ opening_answer o marks stops
 
-abbrev pub OpensBy : (bytes : List ℕ) → (marks : List Float) → (stops : List ℕ) → Opened → Type 0
-OpensBy bytes marks stops r = view_opened r ≡ record_answer bytes marks stops
+abbrev pub OpensBy : (bytes : List ℕ) → (marks : List Float) → (stops : List ℕ) → Result State Refusal → Type 0
+OpensBy bytes marks stops r = told view_state r ≡ record_answer bytes marks stops
 
 -- a trial's answer without its state ('Answers are compared without their state'): the outcome, and the number beyond of document 02, order 2
 pub record Told : Type 0 where
@@ -56,8 +54,8 @@ abbrev pub Stepped : State → Call → State → Told → Type 0
 Stepped s c t x = view_tried (record { state = t; outcome = x.outcome; beyond = x.beyond }) ≡ step_answer (view_state s) c
 
 -- the indices asked for from s, with a lent list that holds `entry` before the call and `after` behind it
-pub record Indexes (s : State) (marks : List Float) (entry : List ℕ) (r : Indexed) (after : List ℕ) : Type 0 where
-  pub answers : view_indexed r ≡ indices_answer (view_state s) marks entry
+pub record Indexes (s : State) (marks : List Float) (entry : List ℕ) (r : Result ℕ Refusal) (after : List ℕ) : Type 0 where
+  pub answers : answered r ≡ indices_answer (view_state s) marks entry
   pub leaves : after ≡ indices_after (view_state s) marks entry
 
 -- the whole run, with its two lent lists before and after
@@ -69,7 +67,7 @@ Ran f winner indices r winner' indices' =
 
 -- an accepted opening
 abbrev pub Opening : RansacOptions → (marks : List Float) → (stops : List ℕ) → State → Type 0
-Opening o marks stops s₀ = Opens o marks stops (Open s₀)
+Opening o marks stops s₀ = Opens o marks stops (Ok s₀)
 
 -- 'the opening's marks and stops'
 pub record Carries (marks : List Float) (stops : List ℕ) (c : Call) : Type 0 where
@@ -100,9 +98,9 @@ pub record Exactly (n : ℕ) (test : ℕ → Bool) (xs : List ℕ) : Type 0 wher
 -- 'The indices given from that state are all of the marks handed in that lie within the threshold under the winner and no others, ascending'
 pub record IndicesGiven (o : RansacOptions) (opened : List Float) (s : State) (w : Winner Model) : Type 0 where
   -- They are given: with the opening's marks and a place a mark, as many as the winner's count.
-  pub written : (entry after : List ℕ) (r : Indexed) → Indexes s opened entry r after → length (marks_of opened) ≤ length entry → r ≡ Written w.count
+  pub written : (entry after : List ℕ) (r : Result ℕ Refusal) → Indexes s opened entry r after → length (marks_of opened) ≤ length entry → r ≡ Ok w.count
   -- Whatever marks are handed in that the call accepts, and whatever list is lent; what is behind the last index stays.
-  pub given : (marks : List Float) (entry after : List ℕ) (r : Indexed) → Indexes s marks entry r after → (k : ℕ) → r ≡ Written k
+  pub given : (marks : List Float) (entry after : List ℕ) (r : Result ℕ Refusal) → Indexes s marks entry r after → (k : ℕ) → r ≡ Ok k
       → Exactly (length (marks_of marks)) (λ i. inlier o.ratio w.model o.thresh (mark_at marks i)) (take k after) × (drop k after ≡ drop k entry)
 
 -- ---- after a list of calls
@@ -127,8 +125,8 @@ pub record Refuses (k r : ℕ) (winner indices winner' indices' : List ℕ) : Ty
 
 -- the indices from s are xs: any list with a place a mark gets these, and the call says how many
 abbrev pub IndexedAs : State → (marks : List Float) → (xs : List ℕ) → Type 0
-IndexedAs s marks xs = (entry after : List ℕ) (r : Indexed) → Indexes s marks entry r after → length (marks_of marks) ≤ length entry
-    → (r ≡ Written (length xs)) × (after ≡ laid_over xs entry)
+IndexedAs s marks xs = (entry after : List ℕ) (r : Result ℕ Refusal) → Indexes s marks entry r after → length (marks_of marks) ≤ length entry
+    → (r ≡ Ok (length xs)) × (after ≡ laid_over xs entry)
 
 -- 'the winner and indices of the same trials called one by one, or refusal 11 without a winner'
 unfoldable pub GivesOf : (marks : List Float) → State → Held Model → (r : ℕ) → (winner indices winner' indices' : List ℕ) → Type 0
@@ -178,7 +176,7 @@ pub record Demand3 : Type 0 where
   pub openable : (o : RansacOptions) (marks : List Float) (stops : List ℕ) → first_failed (opening_tests o marks stops) ≡ 0 → (s₀ : State) × Opening o marks stops s₀
   pub callable : (s₀ : State) (calls : List Call) → (s : State) × ((answers : List Told) × Called Tried s₀ calls answers s)
   -- An opening by a record that is accepted is one with that record's options, so the same holds after it.
-  pub by_record : (bytes : List ℕ) (marks : List Float) (stops : List ℕ) (s₀ : State) → OpensBy bytes marks stops (Open s₀) → Opening (options_of bytes) marks stops s₀
+  pub by_record : (bytes : List ℕ) (marks : List Float) (stops : List ℕ) (s₀ : State) → OpensBy bytes marks stops (Ok s₀) → Opening (options_of bytes) marks stops s₀
   -- A trial over the opening's marks without testing them again is a trial: so what `pickmarks` calls are calls of this demand.
   pub by_steps : (o : RansacOptions) (marks : List Float) (stops : List ℕ) (s₀ s t : State) (c : Call) (x : Told) → Opening o marks stops s₀ → c.marks ≡ marks
       → Stepped s c t x → Tried s c t x

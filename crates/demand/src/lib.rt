@@ -4,36 +4,40 @@
 // a weaker contract of what is called breaks this crate.
 #![tactic(auto)]
 
+ghost use Rattle.rule.specs.Answer.{refusal_in};
+ghost use Rattle.judge.specs.Judging.{call_of};
 ghost use Rattle.demand.specs.Demand.{Opens, OpensBy, Tried as Tries, Stepped, Indexes, Ran};
 
-use pick::{Indexed, Opened, State, Tried};
+use judge::Call;
+use pick::{State, Tried};
 use records::RansacOptions;
+use rule::Refusal;
 
-pub fn open(o: RansacOptions, marks: &[f64], stops: &[u32]) -> Opened
+pub fn open(o: RansacOptions, marks: &[f64], stops: &[u32]) -> Result<State, Refusal>
     ensures { Opens o marks.now stops.now result }
 {
     pick::open(o, marks, stops)
 }
 
-pub fn open_record(bytes: &[u8], marks: &[f64], stops: &[u32]) -> Opened
+pub fn open_record(bytes: &[u8], marks: &[f64], stops: &[u32]) -> Result<State, Refusal>
     ensures { OpensBy bytes.now marks.now stops.now result }
 {
     pick::open_record(bytes, marks, stops)
 }
 
-pub fn trial(s: State, bytes: &[u8], marks: &[f64], stops: &[u32]) -> Tried
-    ensures { Tries s (record { bytes = bytes.now; marks = marks.now; stops = stops.now }) result.state (record { outcome = result.outcome; beyond = result.beyond }) }
+pub fn trial(s: State, call: Call) -> Tried
+    ensures { Tries s (call_of call.entry) result.state (record { outcome = result.outcome; beyond = result.beyond }) }
 {
-    pick::trial(s, bytes, marks, stops)
+    pick::trial(s, call)
 }
 
-pub fn step(s: State, bytes: &[u8], marks: &[f64], stops: &[u32]) -> Tried
-    ensures { Stepped s (record { bytes = bytes.now; marks = marks.now; stops = stops.now }) result.state (record { outcome = result.outcome; beyond = result.beyond }) }
+pub fn step(s: State, call: Call) -> Tried
+    ensures { Stepped s (call_of call.entry) result.state (record { outcome = result.outcome; beyond = result.beyond }) }
 {
-    pick::step(s, bytes, marks, stops)
+    pick::step(s, call)
 }
 
-pub fn winner_indices(s: State, marks: &[f64], indices: &mut [u32]) -> Indexed
+pub fn winner_indices(s: State, marks: &[f64], indices: &mut [u32]) -> Result<usize, Refusal>
     ensures { Indexes s marks.now indices.old result indices.new }
 {
     pick::winner_indices(s, marks, indices)
@@ -46,8 +50,8 @@ pub fn run(
     trials: &[u8],
     winner: &mut [u8],
     indices: &mut [u8],
-) -> u32
-    ensures { Ran (record { options = options.now; marks = marks.now; stops = stops.now; trials = trials.now }) winner.old indices.old result winner.new indices.new }
+) -> Result<(), Refusal>
+    ensures { Ran (record { options = options.now; marks = marks.now; stops = stops.now; trials = trials.now }) winner.old indices.old (refusal_in result) winner.new indices.new }
 {
     salghemu::salghemu_run(options, marks, stops, trials, winner, indices)
 }
