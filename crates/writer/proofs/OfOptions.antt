@@ -1,10 +1,10 @@
 -- The options' writer: its ways out, and what its format keeps. Assumes nothing.
 use mathlib.Core.Path.{◌≡◌, refl, sym, ap, ◌∙◌}
-use mathlib.Core.Bool.{true, false, not, cond, ◌&&◌}
+use mathlib.Core.Bool.{Bool, true, false, not, cond, ◌&&◌}
 use mathlib.Core.List.{List, [], ◌∷◌, ◌++◌}
 use Prim.Native.Nat.{ℕ, zero, suc, ◌^◌, ◌≤◌, ◌<◌}
 use native.Mathlib.Omega.{arith}
-use borrow.Author.Tests.{not-false}
+use borrow.Author.Tests.{not-false, le-ltb}
 use borrow.Rule.Slice.PartMut.{mid_of, put_mid}
 use lib.Dec.{T, leb, eqb, leb→le, eqb→eq}
 use lib.ListN.{length, get_or, drop}
@@ -13,6 +13,7 @@ use lib.Ieee.Bits.{is_true, of_bits-to_bits, to_bits-lt, to_bits-of_bits}
 use native.Mathlib.Nat.{mod-eq_of_lt}
 use lib.Ieee.{binary64, fits, lt, le, of_bits}
 use Rattle.rule.specs.Refusal.{RECORD}
+use Rattle.rule.specs.Answer.{refused, gives}
 use Rattle.rule.specs.Order.{first_failed}
 use Rattle.rule.specs.Lists.{for_each, filled}
 use Rattle.rule.proofs.Tests.{and_true, is_test}
@@ -25,7 +26,7 @@ use Rattle.fields.specs.Fields.{bytes_of, double_bytes}
 use Rattle.fields.specs.Packing.{size_of, packed}
 use Rattle.fields.proofs.Writing.{laid_none, laid_more, laid_all}
 use Rattle.fields.proofs.Packing.{Fit, none, more, fit_length, fit_at}
-use Rattle.records.specs.Options.{short_layout, options_layout, options_sound, ratio_from, options_from, thresh, confidence, iters, options_tests}
+use Rattle.records.specs.Options.{mark_answer, short_layout, options_layout, options_sound, ratio_from, options_from, thresh, confidence, iters, options_tests}
 use Rattle.records.specs.declared.options.RansacOptions.{RansacOptions}
 use Rattle.records.proofs.Placed.{options_size}
 use Rattle.records.proofs.Formed.{options_above_0}
@@ -80,6 +81,15 @@ module _ (n : OptionNumbers) (entry : List ℕ) (p : fits binary64 n.thresh ≡ 
 
   pub options_exit : written options_format n entry ≡ exit_by checked 40 (record_of options_format n) entry
   options_exit = exit_is options_format n entry above_there ∙ rw (here, format_size)
+
+  -- the record is left, where the tests passed and there is room
+  pub options_left : {mark : Bool} → gives mark ≡ mark_answer n.refit_mark → 0 ≡ first_failed (options_tests (record (options_with n) { refit = mark })) → 40 ≤ length entry
+      → written options_format n entry ≡ filled (record_of options_format n) entry
+  options_left {mark} e h room = options_exit ∙ rw (passed (leb n.refit_mark 1) e, le-ltb (length entry) 40 room)
+    where
+      passed : (small : Bool) → gives mark ≡ cond small (gives (eqb n.refit_mark 1)) (refused RECORD) → cond (not small) RECORD (first_failed (options_tests (options_with n))) ≡ 0
+      passed true g = let same : mark ≡ eqb n.refit_mark 1 = cc in sym (h ∙ ap (λ set. first_failed (options_tests (record (options_with n) { refit = set }))) same)
+      passed false g = cc
 
 -- the mark and seven zero bytes, as they are copied
 mark_bytes : (mark : ℕ) → mark < 256 → mark ∷ 0 ∷ 0 ∷ 0 ∷ 0 ∷ 0 ∷ 0 ∷ 0 ∷ [] ≡ bytes_of 1 mark ++ bytes_of 7 0
