@@ -1,5 +1,5 @@
 -- The indices that are written lie in the lent list. Assumes nothing.
-use mathlib.Core.Path.{◌≡◌, sym, ap, ◌∙◌}
+use mathlib.Core.Path.{◌≡◌, ap, ◌∙◌}
 use mathlib.Core.List.{List, ◌++◌}
 use Prim.Native.Nat.{ℕ, ◌≤◌}
 use native.Mathlib.Omega.{arith}
@@ -14,9 +14,7 @@ use Rattle.records.specs.declared.options.RansacOptions.{RansacOptions}
 use Rattle.measure.specs.Distances.{distances_of}
 use Rattle.score.specs.Places.{indices_in}
 use Rattle.pick.specs.Run.{Run}
-use Rattle.pick.specs.Indices.{marks_order, under_answer, under_after, winner_answer, winner_after, indices_answer, indices_after, view_indexed}
-use Rattle.pick.specs.declared.indices.Indexed.{Indexed}
-use Rattle.pick.specs.declared.indices.Indexed.TheVariants.{Written}
+use Rattle.pick.specs.Indices.{marks_order, under_answer, under_after, winner_answer, winner_after, indices_answer, indices_after}
 
 module _ (marks : List Float) (entry : List ℕ) {after : List ℕ} {k : ℕ} where
   under : (n : ℕ) (o : RansacOptions) (h : Model) → gives k ≡ under_answer n o h marks entry → after ≡ under_after n o h marks entry → k ≤ length after
@@ -32,6 +30,6 @@ module _ (marks : List Float) (entry : List ℕ) {after : List ℕ} {k : ℕ} wh
   by_winner n o none a e = absurd (let z : ◌≡◌ {A = ℕ} 0 1 = cc in omega (arith, z))
   by_winner n o (held w) a e = under n o w.model a e
 
-  pub written_fits : (r : Run) {q : Indexed} → view_indexed q ≡ indices_answer r marks entry → q ≡ Written k → after ≡ indices_after r marks entry → k ≤ length after
-  unfolding view_indexed indices_answer indices_after
-  written_fits r a w e = by_winner r.n r.options r.book.winner (ap view_indexed (sym w) ∙ a) e
+  pub written_fits : (r : Run) → gives k ≡ indices_answer r marks entry → after ≡ indices_after r marks entry → k ≤ length after
+  unfolding indices_answer indices_after
+  written_fits r a e = by_winner r.n r.options r.book.winner a e

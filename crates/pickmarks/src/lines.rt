@@ -1,9 +1,22 @@
 // The printed lines (document 01, 'Sheets to try'). Counts and places are decimal; a root mean square
 // is its bits, in 16 hexadecimal digits.
+use booking::Counts;
 use pick::{Outcome, State, Winner};
 use std::{fmt, io};
 
+// A double, as its bits.
+#[derive(Clone, Copy)]
+struct Bits(f64);
+
+impl fmt::Display for Bits {
+    fn fmt<W: fmt::Write>(&self, f: &mut fmt::Formatter<W>) -> fmt::Result {
+        let bits = fields::bits_of(self.0);
+        write!(f, "{bits:016x}")
+    }
+}
+
 // The line of a trial, by its number, or of its refusal.
+#[derive(Clone, Copy)]
 pub(crate) struct TrialLine {
     pub number: u32,
     pub outcome: Outcome,
@@ -16,14 +29,8 @@ impl fmt::Display for TrialLine {
             Outcome::Refused(refusal) => write!(f, "{refusal}"),
             Outcome::Empty => write!(f, "{number} empty - -"),
             Outcome::Few(count) => write!(f, "{number} few {count} -"),
-            Outcome::Held(count, rms) => {
-                let bits = fields::bits_of(rms);
-                write!(f, "{number} held {count} {bits:016x}")
-            }
-            Outcome::Won(count, rms) => {
-                let bits = fields::bits_of(rms);
-                write!(f, "{number} won {count} {bits:016x}")
-            }
+            Outcome::Held(count, rms) => write!(f, "{number} held {count} {}", Bits(rms)),
+            Outcome::Won(count, rms) => write!(f, "{number} won {count} {}", Bits(rms)),
         }
     }
 }
@@ -38,11 +45,9 @@ fn print_indices(rt: &impl Print, indices: &[u32]) -> io::Result<()> {
 
 // The lines of a winner that is held. The indices are never refused here: the marks are those of the
 // opening, and there is a place for each (`indices-written` of crates/pick/proofs/Accepted.antt).
+#[tactic(auto, using(std::proofs::lemmas::Grind::common_steps, crate::proofs::Written::written_fits))]
 fn print_held(rt: &impl Print, s: State, w: Winner, marks: &[f64]) -> io::Result<()> {
-    let number = w.number;
-    let count = w.count;
-    let bits = fields::bits_of(w.rms);
-    println!(rt; "winner {number} {count} {bits:016x}")?;
+    println!(rt; "winner {} {} {}", w.number, w.count, Bits(w.rms))?;
     let mut indices = [0u32; 2000];
     match pick::winner_indices(s, marks, &mut indices) {
         Ok(count) => print_indices(rt, &indices[..count]),
@@ -57,11 +62,6 @@ pub(crate) fn print_winner(rt: &impl Print, s: State, marks: &[f64]) -> io::Resu
     }
 }
 
-pub(crate) fn print_counts(rt: &impl Print, s: State) -> io::Result<()> {
-    let c = s.counts;
-    let read = c.read;
-    let empty = c.empty;
-    let few = c.few;
-    let scored = c.scored;
-    println!(rt; "counts {read} {empty} {few} {scored}")
+pub(crate) fn print_counts(rt: &impl Print, c: Counts) -> io::Result<()> {
+    println!(rt; "counts {} {} {} {}", c.read, c.empty, c.few, c.scored)
 }

@@ -32,91 +32,86 @@ impl From<io::Error> for Stop {
     }
 }
 
-// The next trial of the file: none at its end. One that is cut off goes to `step` as it is, and is
-// refused for its length. The opening tested the marks, and `step` doesn't test them again: it answers
-// as `trial` does (`by_steps` of crates/demand/specs/Demand.antt).
-fn next_trial<F: Read>(file: &mut F, s: State, marks: &[f64], stops: &[u32]) -> Option<Tried> {
-    let mut record = [0u8; 152];
-    let len = reading::read_full(file, &mut record);
-    if len == 0 {
-        return None;
-    }
-    let bytes = &record[..len];
-    let call = Call {
-        bytes,
-        marks,
-        stops,
-    };
-    Some(pick::step(s, call))
+// What a run is opened with and its calls are given again: the marks' numbers, and the stop entries.
+#[derive(Clone, Copy)]
+struct Run<'a> {
+    marks: &'a [f64],
+    stops: &'a [u32],
 }
 
-// All trials up to the bound, the end of the file or a refusal, and their lines; the last state. Each
-// turn reads one, and the bound is never above 100,000, the ceiling on max_iters, so the turns suffice.
-fn print_trials<F: Read>(
-    rt: &impl Print,
-    file: &mut F,
-    s: State,
-    marks: &[f64],
-    stops: &[u32],
-) -> Result<State, Stop> {
-    let mut state = s;
-    for _ in 0..100_000 {
-        if state.counts.bound <= state.counts.read {
-            return Ok(state);
+impl<'a> Run<'a> {
+    // The next trial of the file: none at its end. One that is cut off goes to `step` as it is, and is
+    // refused for its length. The opening tested the marks, and `step` doesn't test them again: it
+    // answers as `trial` does (`by_steps` of crates/demand/specs/Demand.antt).
+    fn next_trial<F: Read>(self, file: &mut F, s: State) -> Option<Tried> {
+        let mut record = [0u8; 152];
+        let len = reading::read_full(file, &mut record);
+        if len == 0 {
+            return None;
         }
-        let Some(tried) = next_trial(file, state, marks, stops) else {
-            return Ok(state);
+        let call = Call {
+            bytes: &record[..len],
+            marks: self.marks,
+            stops: self.stops,
         };
-        if let Outcome::Refused(refusal) = tried.outcome {
-            return Err(Stop::Refused(refusal));
+        Some(pick::step(s, call))
+    }
+
+    // All trials up to the end of the run or of the file, or a refusal, and their lines; the last state.
+    // Each turn reads one, and the bound is never above 100,000, the ceiling on max_iters, so the turns
+    // suffice.
+    fn print_trials<F: Read>(self, rt: &impl Print, file: &mut F, s: State) -> Result<State, Stop> {
+        let mut state = s;
+        for _ in 0..100_000 {
+            if state.counts.is_closed() {
+                return Ok(state);
+            }
+            let Some(tried) = self.next_trial(file, state) else {
+                return Ok(state);
+            };
+            if let Outcome::Refused(refusal) = tried.outcome {
+                return Err(Stop::Refused(refusal));
+            }
+            state = tried.state;
+            let line = TrialLine {
+                number: state.counts.read,
+                outcome: tried.outcome,
+            };
+            println!(rt; "{line}")?;
         }
-        state = tried.state;
-        let line = TrialLine {
-            number: state.counts.read,
-            outcome: tried.outcome,
-        };
-        println!(rt; "{line}")?;
+        Ok(state)
     }
-    Ok(state)
-}
 
-// The trials of trials.bin; a file that can't be opened counts as empty.
-fn print_file(
-    rt: &(impl Files + Print),
-    s: State,
-    marks: &[f64],
-    stops: &[u32],
-) -> Result<State, Stop> {
-    match fs::open(rt, "trials.bin") {
-        Ok(mut file) => print_trials(rt, &mut file, s, marks, stops),
-        Err(_) => Ok(s),
+    // The trials of trials.bin; a file that can't be opened counts as empty.
+    fn print_file(self, rt: &(impl Files + Print), s: State) -> Result<State, Stop> {
+        match fs::open(rt, "trials.bin") {
+            Ok(mut file) => self.print_trials(rt, &mut file, s),
+            Err(_) => Ok(s),
+        }
     }
-}
 
-// What is printed for an options record, the numbers of a mark list and the entries of a stop list.
-fn print_run(
-    rt: &(impl Files + Print),
-    record: &[u8],
-    marks: &[f64],
-    stops: &[u32],
-) -> Result<(), Stop> {
-    let s = pick::open_record(record, marks, stops)?;
-    rt.print("trial outcome count rms\n")?;
-    let last = print_file(rt, s, marks, stops)?;
-    lines::print_winner(rt, last, marks)?;
-    lines::print_counts(rt, last)?;
-    Ok(())
+    // What is printed for an options record.
+    fn print(self, rt: &(impl Files + Print), record: &[u8]) -> Result<(), Stop> {
+        let s = pick::open_record(record, self.marks, self.stops)?;
+        rt.print("trial outcome count rms\n")?;
+        let last = self.print_file(rt, s)?;
+        lines::print_winner(rt, last, self.marks)?;
+        lines::print_counts(rt, last.counts)?;
+        Ok(())
+    }
 }
 
 fn main(rt: HostRuntime) -> io::Result<()> {
     // one byte more than the longer kind of record has, so that a longer file has a wrong length too
     let mut record = [0u8; 41];
-    let bytes = files::read_file(&rt, "options.bin", &mut record);
+    let record = files::read_file(&rt, "options.bin", &mut record);
     let mut marks = [0.0; 8000];
-    let numbers = files::read_marks(&rt, &mut marks);
     let mut stops = [0u32; 2001];
-    let entries = files::read_stops(&rt, &mut stops);
-    match print_run(&rt, &record[..bytes], &marks[..numbers], &stops[..entries]) {
+    let run = Run {
+        marks: files::read_marks(&rt, &mut marks),
+        stops: files::read_stops(&rt, &mut stops),
+    };
+    match run.print(&rt, record) {
         Ok(()) => Ok(()),
         Err(Stop::Refused(refusal)) => println!(rt; "{refusal}"),
         Err(Stop::Unwritten(e)) => Err(e),

@@ -19,39 +19,39 @@ options_of thresh confidence max_iters min_inliers refit ratio =
 
 -- ---- the maker of options
 
-unfoldable pub made_number : List ℕ → ℕ
+abbrev pub made_number : List ℕ → ℕ
 made_number entry = cond (ltb (length entry) 6) NO_WORDS 0
 
 -- ---- the opening
 
-unfoldable pub refusal_of : Answer Run → ℕ
+abbrev pub refusal_of : Answer Run → ℕ
 refusal_of (refused k) = k
 refusal_of (gives r) = 0
 
-unfoldable pub opened_number : Answer Run → List ℕ → ℕ
+abbrev pub opened_number : Answer Run → List ℕ → ℕ
 opened_number a entry = cond (ltb (length entry) 25) NO_WORDS (refusal_of a)
 
 -- as it was where the opening is refused, or there is no room
-unfoldable pub opened_after : Answer Run → List ℕ → List ℕ
+abbrev pub opened_after : Answer Run → List ℕ → List ℕ
 opened_after (refused k) entry = entry
 opened_after (gives r) entry = filled (run_words r) entry
 
 -- ---- a trial
 
-unfoldable pub tried_number : (words entry : List ℕ) → ℕ
+abbrev pub tried_number : (words entry : List ℕ) → ℕ
 tried_number words entry = cond (ltb (length words) 25 || ltb (length entry) 29) NO_WORDS 0
 
-unfoldable pub tried_after : (words : List ℕ) → Call → (entry : List ℕ) → List ℕ
+abbrev pub tried_after : (words : List ℕ) → Call → (entry : List ℕ) → List ℕ
 tried_after words call entry = cond (ltb (length words) 25) entry (filled (tried_words (trial_answer (run_in words) call)) entry)
 
 -- ---- the winner's indices: how many; 2^32 and the refusal's number; 2^33 where there is no state
 
-unfoldable pub indexed_number : Answer ℕ → ℕ
+abbrev pub indexed_number : Answer ℕ → ℕ
 indexed_number (refused k) = 0x1_0000_0000 + k
 indexed_number (gives n) = n
 
-unfoldable pub listed_number : (words : List ℕ) → List Float → (entry : List ℕ) → ℕ
+abbrev pub listed_number : (words : List ℕ) → List Float → (entry : List ℕ) → ℕ
 listed_number words marks entry = cond (ltb (length words) 25) 0x2_0000_0000 (indexed_number (indices_answer (run_in words) marks entry))
 
-unfoldable pub listed_after : (words : List ℕ) → List Float → (entry : List ℕ) → List ℕ
+abbrev pub listed_after : (words : List ℕ) → List Float → (entry : List ℕ) → List ℕ
 listed_after words marks entry = cond (ltb (length words) 25) entry (indices_after (run_in words) marks entry)

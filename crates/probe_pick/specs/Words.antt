@@ -13,22 +13,22 @@ use Rattle.pick.specs.Run.{Run, Answer}
 abbrev pub bits : Float → ℕ
 bits x = to_bits binary64 x
 
-unfoldable pub bit : Bool → ℕ
+abbrev pub bit : Bool → ℕ
 bit b = cond b 1 0
 
 -- words 0 to 4
-unfoldable pub option_words : RansacOptions → List ℕ
+abbrev pub option_words : RansacOptions → List ℕ
 option_words o = bits o.thresh ∷ bits o.confidence ∷ o.max_iters ∷ o.min_inliers ∷ bit o.refit ∷ []
 
 -- word 24; word 5 where the options stand by themselves
-unfoldable pub ratio_word : RansacOptions → List ℕ
+abbrev pub ratio_word : RansacOptions → List ℕ
 ratio_word o = bits o.ratio ∷ []
 
-unfoldable pub made_words : RansacOptions → List ℕ
+abbrev pub made_words : RansacOptions → List ℕ
 made_words o = option_words o ++ ratio_word o
 
 -- words 5 to 10
-unfoldable pub count_words : Run → List ℕ
+abbrev pub count_words : Run → List ℕ
 count_words r = r.n ∷ r.book.read ∷ r.book.empties ∷ r.book.fews ∷ r.book.scores ∷ r.book.bound ∷ []
 
 -- words 11 to 23: zeros where no winner is held
@@ -40,7 +40,7 @@ unfoldable pub run_words : Run → List ℕ
 run_words r = option_words r.options ++ count_words r ++ winner_words r.book.winner ++ ratio_word r.options
 
 -- which outcome, the refusal's number or the count, and the root mean square
-unfoldable pub outcome_words : Outcome → List ℕ
+abbrev pub outcome_words : Outcome → List ℕ
 outcome_words (is_refused k) = 0 ∷ k ∷ 0 ∷ []
 outcome_words is_empty = 1 ∷ 0 ∷ 0 ∷ []
 outcome_words (is_few count) = 2 ∷ count ∷ 0 ∷ []
@@ -54,13 +54,13 @@ tried_words t = (run_words t.run ++ outcome_words t.outcome) ++ (t.beyond ∷ []
 -- ---- reading
 
 -- the word at a place as a number below 2^32, as a double, and as a flag, of which 0 alone is no
-unfoldable pub small_at : List ℕ → ℕ → ℕ
+abbrev pub small_at : List ℕ → ℕ → ℕ
 small_at l i = get_or l i 0 % 0x1_0000_0000
 
-unfoldable pub number_at : List ℕ → ℕ → Float
+abbrev pub number_at : List ℕ → ℕ → Float
 number_at l i = of_bits binary64 (get_or l i 0)
 
-unfoldable pub flag_at : List ℕ → ℕ → Bool
+abbrev pub flag_at : List ℕ → ℕ → Bool
 flag_at l i = not (eqb (get_or l i 0) 0)
 
 unfoldable pub model_in : List ℕ → Model

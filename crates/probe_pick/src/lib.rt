@@ -29,11 +29,11 @@ fn put_opened(opened: Result<State, Refusal>, state: &mut [u64]) -> u32
     ensures value { result ≡ opened_number (told view_state opened) state.old }
     ensures state_after { state.new ≡ opened_after (told view_state opened) state.old }
 {
+    if let Ok(s) = opened {
+        writing::put(&writing::state_words(s), state);
+    }
     if state.len() < 25 {
         return NO_WORDS;
-    }
-    if let Ok(s) = opened {
-        writing::put_state(s, state);
     }
     rule::number(opened)
 }
@@ -78,12 +78,8 @@ pub extern "C" fn probe_new_options(thresh: f64, state: &mut [u64]) -> u32
     ensures value { result ≡ made_number state.old }
     ensures state_after { state.new ≡ filled (made_words (usual_options thresh)) state.old }
 {
-    if state.len() < 6 {
-        return NO_WORDS;
-    }
-    let words = writing::made_words(RansacOptions::new(thresh));
-    writing::put(&words, state);
-    0
+    writing::put(&writing::made_words(RansacOptions::new(thresh)), state);
+    if state.len() < 6 { NO_WORDS } else { 0 }
 }
 
 // A trial: the new state's words, then which outcome, the refusal's number or the count, the root mean
@@ -102,16 +98,14 @@ pub extern "C" fn probe_trial(
     if state.len() < 25 {
         return NO_WORDS;
     }
-    if out.len() < 29 {
-        return NO_WORDS;
-    }
     let call = Call {
         bytes,
         marks,
         stops,
     };
-    writing::put_tried(pick::trial(reading::state_in(state), call), out);
-    0
+    let tried = pick::trial(reading::state_in(state), call);
+    writing::put(&writing::tried_words(tried), out);
+    if out.len() < 29 { NO_WORDS } else { 0 }
 }
 
 // How many indices are written; 2^32 and the number of the refusal; 2^33 where there is no state.

@@ -7,14 +7,12 @@ use booking::Counts;
 use pick::{State, Winner};
 use records::RansacOptions;
 use sheet::Model;
+use std::array;
 
 fn word_at(words: &[u64], i: usize) -> u64
     ensures { result ≡ get_or words.now i 0 }
 {
-    match words.get(i) {
-        Some(word) => *word,
-        None => 0,
-    }
+    words.get(i).copied().unwrap_or(0)
 }
 
 fn small_at(words: &[u64], i: usize) -> u32
@@ -35,29 +33,18 @@ fn flag_at(words: &[u64], i: usize) -> bool
     word_at(words, i) != 0
 }
 
+#[tactic(auto, unfolding(crate::specs::Words::model_in))]
 fn model_in(words: &[u64]) -> Model
     ensures { result ≡ model_in words.now }
 {
-    Model::from([
-        number_at(words, 15),
-        number_at(words, 16),
-        number_at(words, 17),
-        number_at(words, 18),
-        number_at(words, 19),
-        number_at(words, 20),
-        number_at(words, 21),
-        number_at(words, 22),
-        number_at(words, 23),
-    ])
+    Model::from(array::from_fn(|i| number_at(words, 15 + i)))
 }
 
+#[tactic(auto, unfolding(crate::specs::Words::winner_in))]
 fn winner_in(words: &[u64]) -> Option<Winner>
     ensures { view_best result ≡ winner_in words.now }
 {
-    if !flag_at(words, 11) {
-        return None;
-    }
-    Some(Winner {
+    flag_at(words, 11).then(|| Winner {
         model: model_in(words),
         count: small_at(words, 12),
         rms: number_at(words, 14),
@@ -65,6 +52,7 @@ fn winner_in(words: &[u64]) -> Option<Winner>
     })
 }
 
+#[tactic(auto, unfolding(crate::specs::Words::options_in))]
 fn options_in(words: &[u64]) -> RansacOptions
     ensures { result ≡ options_in words.now }
 {
@@ -78,6 +66,7 @@ fn options_in(words: &[u64]) -> RansacOptions
     }
 }
 
+#[tactic(auto, unfolding(crate::specs::Words::run_in))]
 pub(crate) fn state_in(words: &[u64]) -> State
     ensures { view_state result ≡ run_in words.now }
 {

@@ -48,6 +48,7 @@ pub extern "C" fn probe_rms(thresh: f64, squares: &[f64], count: u32) -> f64
 }
 
 // A NaN where it is not below: no root mean square is one.
+#[tactic(auto, using(rule::proofs::Nan::nan_bits_lem))]
 #[unsafe(no_mangle)]
 pub extern "C" fn probe_rms_if_less(thresh: f64, squares: &[f64], count: u32, best: f64) -> f64
     ensures { result ≡ below_of (less_of (rms_of count (squares_in thresh (map root_of squares.now))) best) }

@@ -1,4 +1,0 @@
-use Rattle.pickmarks.proofs.print_trials.Given as goal
-
-abbrev pub decreases-loop-turns : goal.decreases-loop-turns
-decreases-loop-turns g l = l.turns
