@@ -1,7 +1,7 @@
 -- The least that a sum of squares, and so a root mean square, can be: found without the roots, and no more than it is. Assumes nothing.
-use mathlib.Core.Path.{◌≡◌, refl, sym, subst, ap, ◌∙◌}
+use mathlib.Core.Path.{◌≡◌, refl, sym, subst, ◌∙◌}
 use mathlib.Core.Bool.{Bool, true, false, cond, ◌&&◌}
-use mathlib.Core.List.{List, [], ◌∷◌, ◌++◌, map, append-nil}
+use mathlib.Core.List.{List, [], ◌∷◌, ◌++◌, map}
 use Prim.Native.Nat.{ℕ, ◌+◌, ◌^◌, ◌≤◌, ◌<◌}
 use borrow.Author.Tests.{ne_eqb}
 use lib.Dec.{T}
@@ -12,9 +12,9 @@ use lib.Ieee.Bits.{is_true, of_bits-fits}
 use lib.Ieee.Fits.{add-fits}
 use Rattle.std.specs.Prelude.{None}
 use Rattle.std.proofs.lemmas.Bool.{and_parts}
-use Rattle.std.proofs.lemmas.List.{take_more, map-append, take-append-drop}
+use Rattle.std.proofs.lemmas.List.{map-append, take-append-drop}
 use Rattle.std.proofs.lemmas.List.Elements.{filter-append}
-use Rattle.std.proofs.lemmas.List.Sums.{fold_push, fold-append}
+use Rattle.std.proofs.lemmas.List.Sums.{fold-append}
 use Rattle.rule.specs.Arith.{clear, ◌⊕◌, ◌⊗◌, ◌⊘◌}
 use Rattle.rule.specs.Lists.{sum_from, those}
 use Rattle.rule.proofs.Tests.{clash, is_test}
@@ -27,7 +27,9 @@ use Rattle.book.proofs.ClearOrder.{le_same, lt_le, lt_not_le, le_trans_clear, ov
 use Rattle.book.proofs.Under.{shrink, shrunk_under, shrunk_clear, add_under, add_none, add_above, rms-under}
 use Rattle.score.specs.Limits.{Low, surely, addend, Under}
 use Rattle.score.specs.Less.{less_of}
+use Rattle.score.specs.Sum.{within_added}
 use Rattle.score.proofs.Bounds.{zero_clear, above_clear, surely-within}
+use Rattle.score.proofs.Walk.{squares_more}
 
 -- ---- what a square adds
 
@@ -65,15 +67,6 @@ adds_least {thresh} {low} q settled double h =
 -- ---- the sum
 
 module _ (thresh : Float) where
-  -- one more distance
-  squares_push : (ds : List Float) (d : Float) → squares_in thresh (ds ++ (d ∷ [])) ≡ cond (le d thresh) (squares_in thresh ds ⊕ square d) (squares_in thresh ds)
-  unfolding squares_in close
-  squares_push ds d = ap (sum_from square zero') (filter-append (close thresh) ds (d ∷ [])) ∙ go (le d thresh)
-    where
-      go : (b : Bool) → sum_from square zero' (those (close thresh) ds ++ cond b (d ∷ []) []) ≡ cond b (sum_from square zero' (those (close thresh) ds) ⊕ square d) (sum_from square zero' (those (close thresh) ds))
-      go true = fold_push (λ s a. s ⊕ square a) zero' (those (close thresh) ds) d
-      go false = ap (sum_from square zero') (append-nil (those (close thresh) ds))
-
   squares_fit : (sum : Float) (ds : List Float) → T (fits binary64 sum) → T (fits binary64 (sum_from square sum ds))
   squares_fit sum [] f = f
   squares_fit sum (d ∷ ds) f = squares_fit (sum ⊕ square d) ds (add-fits binary64 _ _)
@@ -119,8 +112,8 @@ module _ (thresh : Float) where
 
     pub least_next : {i : ℕ} → i < length qs → {sum part : Float} → Under part (addend thresh (root_of (get_or qs i nan))) → Under sum (squares_in thresh (map root_of (take i qs)))
         → Under (sum ⊕ part) (squares_in thresh (map root_of (take (i + 1) qs)))
-    unfolding square
-    least_next {i} here {sum} {part} p u = rw (take_more qs i nan here, map-append root_of (take i qs) (get_or qs i nan ∷ []), squares_push (map root_of (take i qs)) (root_of (get_or qs i nan))) (go (le d thresh) refl)
+    unfolding square within_added
+    least_next {i} here {sum} {part} p u = rw (squares_more thresh qs here) (go (le d thresh) refl)
       where
         d : Float
         d = root_of (get_or qs i nan)

@@ -13,8 +13,10 @@ use lib.Seq.{drop-cons, set-append_seam, length-take-le}
 use lib.Ieee.{Float, nan, binary64, fits, le}
 use Rattle.std.specs.List.{count_by}
 use Rattle.std.proofs.lemmas.List.{take_all, take_more, map-append}
-use Rattle.std.proofs.lemmas.List.Sums.{sum_by-cons}
+use Rattle.std.proofs.lemmas.List.Elements.{filter-append}
+use Rattle.std.proofs.lemmas.List.Sums.{sum_by-cons, fold_push}
 use Rattle.std.proofs.lemmas.List.Recursion.{is_sum_by}
+use Rattle.rule.specs.Arith.{◌⊕◌}
 use Rattle.rule.specs.Lists.{count_of, those, sum_from, places_from}
 use Rattle.rule.proofs.Lists.{places_count}
 use Rattle.rule.proofs.Tests.{clash, or_true}
@@ -23,6 +25,7 @@ use Rattle.numbers.specs.Constants.{zero'}
 use Rattle.book.specs.Score.{close, count_in, square, squares_in}
 use Rattle.score.specs.Places.{indices_in, cramped, indexed, index_count}
 use Rattle.score.specs.Limits.{Low, High, surely, possibly}
+use Rattle.score.specs.Sum.{within_added}
 use Rattle.score.proofs.Bounds.{surely-within, surely-beyond}
 
 -- nothing is written for over 2,000 distances
@@ -73,20 +76,27 @@ module _ {thresh low high : Float} (l : Low thresh low) (h : High thresh high) (
 
 -- ---- the sum
 
--- what is possibly within is enough to look at
-all_looked_at : {thresh high : Float} → High thresh high → (qs : List Float) → Doubles qs → those (close thresh) (map root_of (those (possibly high) qs)) ≡ those (close thresh) (map root_of qs)
-unfolding close
-all_looked_at h [] f = refl
-all_looked_at {thresh} {high} h (q ∷ qs) f = go (possibly high q) refl (all_looked_at h qs (λ i. f (suc i)))
+-- one more distance
+pub squares_push : (thresh : Float) (ds : List Float) (d : Float) → squares_in thresh (ds ++ (d ∷ [])) ≡ within_added thresh (squares_in thresh ds) d
+unfolding squares_in close within_added
+squares_push thresh ds d = ap (sum_from square zero') (filter-append (close thresh) ds (d ∷ [])) ∙ go (le d thresh)
   where
-    go : (b : Bool) → possibly high q ≡ b → those (close thresh) (map root_of (those (possibly high) qs)) ≡ those (close thresh) (map root_of qs)
-        → those (close thresh) (map root_of (cond b (q ∷ those (possibly high) qs) (those (possibly high) qs))) ≡ those (close thresh) (map root_of (q ∷ qs))
-    go true e rest = rw rest
-    go false e rest = rest ∙ rw (surely-beyond h q (f 0) e)
+    go : (b : Bool) → sum_from square zero' (those (close thresh) ds ++ cond b (d ∷ []) []) ≡ cond b (sum_from square zero' (those (close thresh) ds) ⊕ square d) (sum_from square zero' (those (close thresh) ds))
+    go true = fold_push (λ s a. s ⊕ square a) zero' (those (close thresh) ds) d
+    go false = ap (sum_from square zero') (append-nil (those (close thresh) ds))
 
-pub squares_looked_at : {thresh high : Float} → High thresh high → (qs : List Float) → Doubles qs → squares_in thresh (map root_of (those (possibly high) qs)) ≡ squares_in thresh (map root_of qs)
+pub squares_more : (thresh : Float) (qs : List Float) {i : ℕ} → i < length qs
+    → squares_in thresh (map root_of (take (i + 1) qs)) ≡ within_added thresh (squares_in thresh (map root_of (take i qs))) (root_of (get_or qs i nan))
+squares_more thresh qs {i} here = rw (take_more qs i nan here, map-append root_of (take i qs) (get_or qs i nan ∷ []), squares_push thresh (map root_of (take i qs)) (root_of (get_or qs i nan)))
+
+pub squares_none : (thresh : Float) → squares_in thresh [] ≡ zero'
 unfolding squares_in
-squares_looked_at h qs f = ap (sum_from square zero') (all_looked_at h qs f)
+squares_none thresh = refl
+
+-- a square that isn't possibly within adds nothing
+pub beyond_added : {thresh high : Float} → High thresh high → (q sum : Float) → T (fits binary64 q) → possibly high q ≡ false → sum ≡ within_added thresh sum (root_of q)
+unfolding within_added
+beyond_added h q sum f e = rw (surely-beyond h q f e)
 
 -- ---- the places
 

@@ -1,3 +1,4 @@
 pub mod Places
 pub mod Limits
 pub mod Less
+pub mod Sum

@@ -5,15 +5,17 @@
 #![tactic(auto)]
 
 mod limits;
+mod sum;
 
-ghost use Rattle.std.specs.Prelude.{◌≡◌, map, filter};
+ghost use Rattle.std.specs.Prelude.{◌≡◌, map};
 ghost use Rattle.root.specs.Root.{root_of};
 ghost use Rattle.book.specs.Score.{count_in, squares_in, rms_of};
 ghost use Rattle.score.specs.Places.{index_count, indexed};
-ghost use Rattle.score.specs.Limits.{possibly, Under};
+ghost use Rattle.score.specs.Limits.{Under};
 ghost use Rattle.score.specs.Less.{less_of};
 
 use limits::Limits;
+use sum::Sum;
 
 // How many of the squares have a root within the threshold.
 pub fn count_inliers(thresh: f64, squares: &[f64]) -> usize
@@ -33,19 +35,17 @@ pub fn count_inliers(thresh: f64, squares: &[f64]) -> usize
     squares.iter().filter(|q| limits.is_close(**q)).count()
 }
 
-// The sum of the squares of the roots within the threshold, in index order from 0. Only squares that may
-// be within it are looked at: the others add nothing. A root is rounded before it is squared, so the sum
-// is not that of the squares in the list.
-#[tactic(auto, unfolding(book::specs::Score::squares_in, book::specs::Score::close, book::specs::Score::square))]
+// The sum of the squares of the roots within the threshold, in index order from 0. A root is rounded
+// before it is squared, so the sum is not that of the squares in the list.
+#[tactic(auto, using(crate::proofs::Walk::squares_none, crate::proofs::Walk::squares_more))]
 fn sum_squares(limits: Limits, squares: &[f64]) -> f64
-    ensures { result ≡ squares_in limits.thresh (map root_of (filter (possibly limits.high) squares.now)) }
+    ensures { result ≡ squares_in limits.thresh (map root_of squares.now) }
 {
-    squares
-        .iter()
-        .filter(|q| limits.is_possible(**q))
-        .map(|q| root::sqrt(*q))
-        .filter(|d| *d <= limits.thresh)
-        .fold(0.0, |sum, d| sum + d * d)
+    let mut sum = Sum::NONE;
+    for square in squares {
+        sum = sum.add(limits, *square);
+    }
+    sum.all(limits.thresh)
 }
 
 // The root mean square of the roots within the threshold, by their number; infinite where that is 0.

@@ -44,11 +44,13 @@ impl Limits {
     pub fn of(thresh: f64) -> Self
         ensures { result.thresh ≡ thresh }
     {
+        let low = thresh * thresh * 0.9999999999999991;
         let high = thresh * thresh * 1.0000000000000009;
+        let (low_root, high_root) = root::sqrt_two(low, high);
         Limits {
             thresh,
-            low: Limits::lower_of(thresh).low,
-            high: settled(thresh, high, thresh < root::sqrt(high)),
+            low: settled(thresh, low, low_root <= thresh),
+            high: settled(thresh, high, thresh < high_root),
         }
     }
 
