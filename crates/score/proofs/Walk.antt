@@ -1,13 +1,12 @@
 -- Walks over the squares of distances: what is counted, summed and written, by the tests of the squares. Assumes nothing.
 use mathlib.Core.Path.{◌≡◌, refl, sym, ap, ◌∙◌}
-use mathlib.Core.Bool.{Bool, true, false, cond, ◌||◌}
+use mathlib.Core.Bool.{Bool, true, false, cond}
 use mathlib.Core.List.{List, [], ◌∷◌, ◌++◌, map, append_assoc, append-nil}
 use Prim.Native.Nat.{ℕ, suc, ◌+◌, ◌≤◌, ◌<◌}
 use native.Mathlib.Nat.{zero-add, add-zero}
 use native.Mathlib.Numerals.{add-one}
 use native.Mathlib.Omega.{arith}
-use borrow.Author.Tests.{lt-ltb}
-use lib.Dec.{T, ltb}
+use lib.Dec.{T}
 use lib.ListN.{length, get_or, take, drop, set, length-map, length-append}
 use lib.Seq.{drop-cons, set-append_seam, length-take-le}
 use lib.Ieee.{Float, nan, binary64, fits, le}
@@ -19,22 +18,14 @@ use Rattle.std.proofs.lemmas.List.Recursion.{is_sum_by}
 use Rattle.rule.specs.Arith.{◌⊕◌}
 use Rattle.rule.specs.Lists.{count_of, those, sum_from, places_from}
 use Rattle.rule.proofs.Lists.{places_count}
-use Rattle.rule.proofs.Tests.{clash, or_true}
+use Rattle.rule.proofs.Tests.{clash}
 use Rattle.root.specs.Root.{root_of}
 use Rattle.numbers.specs.Constants.{zero'}
 use Rattle.book.specs.Score.{close, count_in, square, squares_in}
-use Rattle.score.specs.Places.{indices_in, cramped, indexed, index_count}
+use Rattle.score.specs.Places.{indices_in}
 use Rattle.score.specs.Limits.{Low, High, surely, possibly}
 use Rattle.score.specs.Sum.{within_added}
 use Rattle.score.proofs.Bounds.{surely-within, surely-beyond}
-
--- nothing is written for over 2,000 distances
-pub too_many : (thresh : Float) (ds : List Float) (entry : List ℕ) → 2000 < length ds → (0 ≡ index_count thresh ds entry) × (entry ≡ indexed thresh ds entry)
-unfolding index_count indexed cramped
-too_many thresh ds entry h = (rw crowded, rw crowded)
-  where
-    crowded : (ltb (length entry) (length ds) || ltb 2000 (length ds)) ≡ true
-    crowded = rw (lt-ltb 2000 (length ds) h) (or_true (ltb (length entry) (length ds)))
 
 -- ---- the count
 
@@ -77,7 +68,7 @@ module _ {thresh low high : Float} (l : Low thresh low) (h : High thresh high) (
 -- ---- the sum
 
 -- one more distance
-pub squares_push : (thresh : Float) (ds : List Float) (d : Float) → squares_in thresh (ds ++ (d ∷ [])) ≡ within_added thresh (squares_in thresh ds) d
+squares_push : (thresh : Float) (ds : List Float) (d : Float) → squares_in thresh (ds ++ (d ∷ [])) ≡ within_added thresh (squares_in thresh ds) d
 unfolding squares_in close within_added
 squares_push thresh ds d = ap (sum_from square zero') (filter-append (close thresh) ds (d ∷ [])) ∙ go (le d thresh)
   where
@@ -108,9 +99,7 @@ places_push p k [] d = go (p d)
     go true = rw add-zero
     go false = refl
 places_push p k (e ∷ ds) d =
-    let rest : places_from (k + 1) p (ds ++ (d ∷ [])) ≡ places_from (k + 1) p ds ++ cond (p d) ((k + suc (length ds)) ∷ []) [] =
-    places_push p (k + 1) ds d ∙ ap (λ n. places_from (k + 1) p ds ++ cond (p d) (n ∷ []) []) (omega arith) in
-    go _ _ _ (p e) rest
+    go _ _ _ (p e) (places_push p (k + 1) ds d ∙ ap (λ n. places_from (k + 1) p ds ++ cond (p d) (n ∷ []) []) (omega arith))
   where
     go : (xs ys zs : List ℕ) (b : Bool) → xs ≡ ys ++ zs → cond b (k ∷ xs) xs ≡ cond b (k ∷ ys) ys ++ zs
     go xs ys zs true h = ap (λ x. k ∷ x) h
@@ -123,10 +112,6 @@ stored front entry {k} i long inside =
     ∙ ap (λ x. set (front ++ get_or entry k 0 ∷ drop (suc k) entry) x i) (sym long)
     ∙ set-append_seam front (get_or entry k 0) (drop (suc k) entry) i
     ∙ rw (← add-one k) (sym (append_assoc front (i ∷ []) (drop (k + 1) entry)))
-
-pub indices_none : (thresh : Float) → indices_in thresh [] ≡ []
-unfolding indices_in places_from
-indices_none thresh = refl
 
 pub indices_count : (thresh : Float) (ds : List Float) → length (indices_in thresh ds) ≡ count_in thresh ds
 unfolding indices_in count_in
