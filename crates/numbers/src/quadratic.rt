@@ -43,6 +43,7 @@ fn in_order(plus: f64, minus: f64) -> Quadratic
     if abs(plus - minus) < 1e-8 {
         return Quadratic::One(plus);
     }
+    // By the source's comparison: `min` and `max` leave open which zero comes first.
     if minus < plus {
         Quadratic::Two(minus, plus)
     } else {

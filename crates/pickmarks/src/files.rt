@@ -31,7 +31,8 @@ fn number_count(len: usize) -> usize
 }
 
 // How many entries the opening is given for a stop file of `len` bytes. Where the file ends within an
-// entry, or has more than any run takes, it is given none: it refuses that as 8, after the others.
+// entry, or has more than any run takes, it is given none: it refuses that as 8, after the others. (One
+// function for both kinds of file would take all five numbers of a kind, and say less at its call.)
 fn entry_count(len: usize) -> usize
     ensures value { result ≡ entry_count len }
     ensures upper_bound { result ≤ 2001 }

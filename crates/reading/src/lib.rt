@@ -14,6 +14,7 @@ pub fn read_full<F: Read>(file: &mut F, buffer: &mut [u8]) -> usize
     ensures bytes { Consumes (F.remaining file.old) (F.remaining file.new) (take result buffer.new) }
 {
     let mut at = 0;
+    // A read gives as many bytes as it likes, so there is no range to go through.
     while at < buffer.len() {
         match file.read(&mut buffer[at..]) {
             Ok(0) | Err(_) => break,

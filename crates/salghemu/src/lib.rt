@@ -17,7 +17,6 @@ use judge::Call;
 use pick::{State, Winner};
 use records::RansacOptions;
 use rule::Refusal;
-use sheet::Model;
 
 // Reads trials to the bound, the end of the list or the first that is refused. The marks are tested.
 fn read_trials(
@@ -59,21 +58,8 @@ fn put_winner(part: &mut [u8], w: Winner)
     fields::write_all(&w.model.numbers(), &mut part[16..88]);
 }
 
-// The indices of the marks within the threshold under a model, four bytes each.
-fn put_indices(o: RansacOptions, h: Model, marks: &[f64], indices: &mut [u8])
-    requires marks_len_bound { length marks.now ≤ 8000 }
-    requires marks_in_bounds { 4 * length (marks_of marks.now) ≤ length indices.old }
-    ensures { indices.new ≡ laid_over (index_bytes o marks.now h) indices.old }
-{
-    let mut squares = [0.0; 2000];
-    let mut places = [0; 2000];
-    let count = judge::write_inliers(o, h, marks, &mut squares, &mut places);
-    fields::write_all(&places[..count], indices);
-}
-
-// The tests after the marks' length, in order: refused with 6, 7, 8, 1 or 9. The marks' numbers have the
-// right shape.
-#[tactic(auto, unfolding(rule::specs::Order::first_failed, rule::specs::Order::room, crate::specs::Whole::later_tests, crate::specs::Whole::stop_bytes, crate::specs::Whole::trial_bytes, sheet::specs::Marks::marks_tests, sheet::specs::Marks::shape, sheet::specs::Marks::point, sheet::specs::Marks::few), using(sheet::proofs::Places::count))]
+// The tests after the marks' length, in order: refused with 6, 7, 8, 1 or 9.
+#[tactic(auto, unfolding(rule::specs::Order::first_failed, rule::specs::Order::room, crate::specs::Whole::later_tests, crate::specs::Whole::stop_bytes, crate::specs::Whole::trial_bytes, sheet::specs::Marks::point, sheet::specs::Marks::few), using(sheet::proofs::Places::count))]
 fn check_later(
     numbers: &[f64],
     stops: usize,
@@ -81,11 +67,11 @@ fn check_later(
     winner: usize,
     indices: usize,
 ) -> Result<(), Refusal>
-    requires numbers_len { length numbers.now % 4 ≡ 0 }
-    requires numbers_len_bound { length numbers.now ≤ 8000 }
     ensures { refusal_in result ≡ first_failed (later_tests numbers.now (length (marks_of numbers.now)) stops trials winner indices) }
 {
-    sheet::check_marks(numbers)?;
+    if !sheet::all_in_range(numbers) {
+        return Err(Refusal::Point);
+    }
     let n = sheet::mark_count(numbers);
     if n < 4 {
         return Err(Refusal::Few);
@@ -127,7 +113,7 @@ fn won(
     last.winner.ok_or(Refusal::NoWinner)
 }
 
-// Writes what a winner gives: its record, and the indices of its marks.
+// Writes what a winner gives: its record, and the indices of its marks, four bytes each.
 fn give(o: RansacOptions, w: Winner, numbers: &[f64], winner: &mut [u8], indices: &mut [u8])
     requires numbers_len_bound { length numbers.now ≤ 8000 }
     requires in_bounds { 88 ≤ length winner.old }
@@ -136,7 +122,10 @@ fn give(o: RansacOptions, w: Winner, numbers: &[f64], winner: &mut [u8], indices
     ensures indices_after { indices.new ≡ laid_over (index_bytes o numbers.now w.model) indices.old }
 {
     put_winner(&mut winner[0..88], w);
-    put_indices(o, w.model, numbers, indices);
+    let mut squares = [0.0; 2000];
+    let mut places = [0; 2000];
+    let count = judge::write_inliers(o, w.model, numbers, &mut squares, &mut places);
+    fields::write_all(&places[..count], indices);
 }
 
 // The run with options that were read.

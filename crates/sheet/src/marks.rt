@@ -118,6 +118,7 @@ fn in_range(x: f64) -> bool
     -1e9 <= x && x <= 1e9
 }
 
+// Whether every number is in range.
 #[tactic(auto, unfolding(crate::specs::Marks::all_within))]
 pub fn all_in_range(numbers: &[f64]) -> bool
     ensures { result ≡ all_within farthest numbers.now }
