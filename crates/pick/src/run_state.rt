@@ -23,8 +23,8 @@ pub struct State {
     pub winner: Option<Winner>,
 }
 
-// What became of a trial: refused; no fit; too few marks, and how many; held or won, with count and
-// root mean square.
+// What became of a trial, by document 01's cases: refused, and the old state stands beside it; no fit;
+// too few marks, and how many; held or won, with count and root mean square.
 #[derive(Clone, Copy)]
 pub enum Outcome {
     Refused(Refusal),
