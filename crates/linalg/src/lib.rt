@@ -47,15 +47,26 @@ pub fn centroid(points: Points) -> Point
     }
 }
 
-#[tactic(auto, using(crate::proofs::Sums::sum_none, crate::proofs::Sums::sum_more))]
+// The points go in twos, since two roots together take less time than one after the other.
+#[tactic(auto, using(crate::proofs::Sums::sum_none, crate::proofs::Sums::sum_two))]
 pub fn mean_distance(points: Points, centre: Point) -> f64
     ensures { result ≡ mean_distance centre (points_of points.entry.side points.entry.marks.now) }
 {
+    let n = points.len();
+    let count = std::num::nearest_usize_to_f64(n);
     let mut sum = 0.0;
-    for i in 0..points.len() {
-        sum += root::sqrt(sheet::squared_apart(points.at(i), centre));
+    for i in 0..n / 2 {
+        let (first, second) = root::sqrt_two(
+            sheet::squared_apart(points.at(2 * i), centre),
+            sheet::squared_apart(points.at(2 * i + 1), centre),
+        );
+        sum = sum + first + second;
     }
-    sum / std::num::nearest_usize_to_f64(points.len())
+    if n % 2 == 1 {
+        let last = root::sqrt(sheet::squared_apart(points.at(n - 1), centre));
+        return (sum + last) / count;
+    }
+    sum / count
 }
 
 // The change that normalises one side; none where the points have no spread.
