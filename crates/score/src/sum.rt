@@ -1,5 +1,6 @@
-// A sum of the squares of roots within a threshold. The roots are taken by twos, which takes less time
-// than one after the other (three quarters of it where a sum was timed).
+// A sum of the squares of roots within a threshold. The roots are taken by twos, which mostly takes less
+// time than one by one: 24 to 28 nanoseconds a mark at three of four places of the code in memory, and 35
+// at the fourth, where a chain that takes them one by one took 29 to 31.
 ghost use Rattle.std.specs.Prelude.{◌≡◌};
 ghost use Rattle.root.specs.Root.{root_of};
 ghost use Rattle.score.specs.Sum.{within_added, with_waiting};
