@@ -44,13 +44,30 @@ fn entry_count(len: usize) -> usize
     }
 }
 
+// Reads the bytes of marks.bin, and answers how many it has: one more than there is room for where it
+// has more. Document 01 wants one buffer of 64,000 bytes, so the byte that is too many is read by itself.
+fn read_mark_bytes<R: Files>(rt: &R, bytes: &mut [u8; 64000]) -> usize
+    ensures { result ≤ 64001 }
+{
+    match fs::open(rt, "marks.bin") {
+        Ok(mut file) => {
+            let len = reading::read_full(&mut file, bytes);
+            if len < 64000 {
+                return len;
+            }
+            len + reading::read_full(&mut file, &mut [0u8; 1])
+        }
+        Err(_) => 0,
+    }
+}
+
 // Reads marks.bin into the front of `numbers`: those that the opening is given.
 pub(crate) fn read_marks<'b, R: Files>(rt: &R, numbers: &'b mut [f64; 8000]) -> &'b [f64] {
-    // one byte more than the longest has, so that a longer file has a wrong length too
-    let mut bytes = [0u8; 64001];
-    let bytes = read_file(rt, "marks.bin", &mut bytes);
-    records::read_marks(bytes, numbers);
-    &numbers[..number_count(bytes.len())]
+    let mut bytes = [0u8; 64000];
+    let len = read_mark_bytes(rt, &mut bytes);
+    // of a file that is longer than any, the opening is given one number, so no matter which
+    records::read_marks(&bytes[..len.min(64000)], numbers);
+    &numbers[..number_count(len)]
 }
 
 // Reads stops.bin into the front of `entries`: those that the opening is given.
