@@ -6,50 +6,66 @@
 
 ghost use Rattle.std.specs.Prelude.{◌≡◌, ◌≤◌, length};
 
-use linalg::Normalized;
 use numbers::Quadratic;
 use rule::Refusal;
 use sheet::{Mark, Model, Points, Side};
-use std::io;
+use std::{fmt, io};
 
-fn print(rt: &impl Print, text: &str) -> io::Result<()> {
-    rt.print(text)
-}
+// A double, as its bits, or `nan`.
+#[derive(Clone, Copy)]
+struct Bits(f64);
 
-// A space, and a double's bit pattern, or `nan`.
-fn print_double(rt: &impl Print, x: f64) -> io::Result<()> {
-    if x != x {
-        return print(rt, " nan");
+impl fmt::Display for Bits {
+    fn fmt<W: fmt::Write>(&self, f: &mut fmt::Formatter<W>) -> fmt::Result {
+        if self.0.is_nan() {
+            return write!(f, "nan");
+        }
+        let bits = self.0.to_bits();
+        write!(f, "{bits:016x}")
     }
-    let bits = f64::to_bits(x);
-    print!(rt; " {bits:016x}")
 }
 
-fn print_refused(rt: &impl Print, refusal: Refusal) -> io::Result<()> {
-    print!(rt; " {refusal}")
+// Each number of a list as its bits, after a space.
+#[derive(Clone, Copy)]
+struct Places<'a>(&'a [f64]);
+
+impl<'a> fmt::Display for Places<'a> {
+    fn fmt<W: fmt::Write>(&self, f: &mut fmt::Formatter<W>) -> fmt::Result {
+        for x in self.0 {
+            write!(f, " {}", Bits(*x))?;
+        }
+        Ok(())
+    }
+}
+
+// What `sheet::distance` answers.
+#[derive(Clone, Copy)]
+struct Measured(Result<Option<f64>, Refusal>);
+
+impl fmt::Display for Measured {
+    fn fmt<W: fmt::Write>(&self, f: &mut fmt::Formatter<W>) -> fmt::Result {
+        match self.0 {
+            Ok(Some(d)) => write!(f, "{}", Bits(d)),
+            Ok(None) => write!(f, "beyond"),
+            Err(refusal) => write!(f, "{refusal}"),
+        }
+    }
 }
 
 fn show_root(rt: &impl Print, name: &str, a: f64) -> io::Result<()> {
-    print(rt, name)?;
     match root::root(a) {
-        Ok(y) => print_double(rt, y)?,
-        Err(refusal) => print_refused(rt, refusal)?,
+        Ok(y) => println!(rt; "{name} {}", Bits(y)),
+        Err(refusal) => println!(rt; "{name} {refusal}"),
     }
-    print(rt, "\n")
 }
 
 fn show_quadratic(rt: &impl Print, name: &str, a: f64, b: f64, c: f64) -> io::Result<()> {
-    print(rt, name)?;
     match numbers::solve_quadratic_real(a, b, c) {
-        Ok(Quadratic::NoRoot) => print(rt, " none")?,
-        Ok(Quadratic::One(x)) => print_double(rt, x)?,
-        Ok(Quadratic::Two(x, y)) => {
-            print_double(rt, x)?;
-            print_double(rt, y)?;
-        }
-        Err(refusal) => print_refused(rt, refusal)?,
+        Ok(Quadratic::NoRoot) => println!(rt; "{name} none"),
+        Ok(Quadratic::One(x)) => println!(rt; "{name} {}", Bits(x)),
+        Ok(Quadratic::Two(x, y)) => println!(rt; "{name} {} {}", Bits(x), Bits(y)),
+        Err(refusal) => println!(rt; "{name} {refusal}"),
     }
-    print(rt, "\n")
 }
 
 fn show_rank(
@@ -60,25 +76,23 @@ fn show_rank(
     null: usize,
     tolerance: f64,
 ) -> io::Result<()> {
-    print(rt, name)?;
     if numbers::dlt_rank_ok(values, cols, null, tolerance) {
-        print(rt, " yes\n")
+        println!(rt; "{name} yes")
     } else {
-        print(rt, " no\n")
+        println!(rt; "{name} no")
     }
 }
 
 fn roots(rt: &impl Print) -> io::Result<()> {
-    let infinity = 1.0 / 0.0;
     show_root(rt, "root 4:", 4.0)?;
     show_root(rt, "root 2^-1074:", 5e-324)?;
     show_root(rt, "root 0:", 0.0)?;
     show_root(rt, "root -0:", -0.0)?;
-    show_root(rt, "root infinity:", infinity)?;
+    show_root(rt, "root infinity:", f64::INFINITY)?;
     show_root(rt, "root of the double before 1:", 0.9999999999999999)?;
     show_root(rt, "root -1:", -1.0)?;
-    show_root(rt, "root -infinity:", -infinity)?;
-    show_root(rt, "root NaN:", infinity - infinity)
+    show_root(rt, "root -infinity:", f64::NEG_INFINITY)?;
+    show_root(rt, "root NaN:", f64::NAN)
 }
 
 fn quadratics(rt: &impl Print) -> io::Result<()> {
@@ -95,8 +109,6 @@ fn quadratics(rt: &impl Print) -> io::Result<()> {
 
 fn ranks(rt: &impl Print) -> io::Result<()> {
     let values = [4.0, 2.0, 1.0];
-    let signs = [1.0, -1.0];
-    let infinity = 1.0 / 0.0;
     show_rank(
         rt,
         "rank of 4 2 1, 4 columns, null 1, 0.25:",
@@ -128,14 +140,18 @@ fn ranks(rt: &impl Print) -> io::Result<()> {
         5,
         1,
         0.0,
-    )?;
+    )
+}
+
+fn ranks_of_signs(rt: &impl Print) -> io::Result<()> {
+    let signs = [1.0, -1.0];
     show_rank(
         rt,
         "rank of 1 -1, 3 columns, null 1, -infinity:",
         &signs,
         3,
         1,
-        -infinity,
+        f64::NEG_INFINITY,
     )?;
     show_rank(
         rt,
@@ -143,99 +159,80 @@ fn ranks(rt: &impl Print) -> io::Result<()> {
         &signs,
         3,
         18446744073709551615,
-        -infinity,
+        f64::NEG_INFINITY,
     )
 }
 
-// Of a list, the first `n` numbers are the marks asked about, here and below.
-fn show_collinear(rt: &impl Print, name: &str, marks: &[f64], side: Side) -> io::Result<()> {
-    print(rt, name)?;
-    match line::points_are_collinear(Points { marks, side }) {
-        Ok(true) => print(rt, " yes")?,
-        Ok(false) => print(rt, " no")?,
-        Err(refusal) => print_refused(rt, refusal)?,
+fn on_sheet<'a>(marks: &'a [f64]) -> Points<'a> {
+    Points {
+        marks,
+        side: Side::Sheet,
     }
-    print(rt, "\n")
 }
 
-// Each number of a list by its bits.
-fn print_places(rt: &impl Print, lent: &[f64]) -> io::Result<()> {
-    for x in lent {
-        print_double(rt, *x)?;
+fn on_pixels<'a>(marks: &'a [f64]) -> Points<'a> {
+    Points {
+        marks,
+        side: Side::Pixel,
     }
-    Ok(())
 }
 
-// The last column of the matrix, but for its 1. A refused call gives none: zeros stand for it.
-fn print_centre(rt: &impl Print, answer: Result<Normalized, Refusal>) -> io::Result<()> {
-    print(rt, ", centre")?;
-    match answer {
-        Ok(normalized) => {
-            print_double(rt, normalized.matrix[0].cells[2])?;
-            print_double(rt, normalized.matrix[1].cells[2])
-        }
-        Err(_) => print_places(rt, &[0.0, 0.0]),
+fn show_collinear(rt: &impl Print, name: &str, points: Points) -> io::Result<()> {
+    match line::points_are_collinear(points) {
+        Ok(true) => println!(rt; "{name} yes"),
+        Ok(false) => println!(rt; "{name} no"),
+        Err(refusal) => println!(rt; "{name} {refusal}"),
     }
 }
 
 // The refusal, if it is one; five places of a list of 7.0, of which the first `room` were lent; and
-// the last column of the matrix.
-fn show_normalized(
-    rt: &impl Print,
-    name: &str,
-    marks: &[f64],
-    side: Side,
-    room: usize,
-) -> io::Result<()>
+// the last column of the matrix, but for its 1. A refused call gives no matrix: zeros stand for it.
+fn show_normalized(rt: &impl Print, name: &str, points: Points, room: usize) -> io::Result<()>
     requires { room ≤ 72 }
 {
-    print(rt, name)?;
     let mut lent = [7.0; 72];
-    let answer = linalg::normalize_points_2d(Points { marks, side }, &mut lent[..room]);
-    if let Err(refusal) = answer {
-        print_refused(rt, refusal)?;
+    let answer = linalg::normalize_points_2d(points, &mut lent[..room]);
+    let places = Places(&lent[..5]);
+    match answer {
+        Ok(normalized) => {
+            let [first, second, _] = normalized.matrix;
+            let (x, y) = (Bits(first.cells[2]), Bits(second.cells[2]));
+            println!(rt; "{name}{places}, centre {x} {y}")
+        }
+        Err(refusal) => {
+            let zero = Bits(0.0);
+            println!(rt; "{name} {refusal}{places}, centre {zero} {zero}")
+        }
     }
-    print_places(rt, &lent[..5])?;
-    print_centre(rt, answer)?;
-    print(rt, "\n")
 }
 
 // The refusal, or the first mark's two rows.
 fn show_rows(rt: &impl Print, name: &str, marks: &[f64], room: usize) -> io::Result<()>
     requires { room ≤ 72 }
 {
-    print(rt, name)?;
     let mut lent = [7.0; 72];
     match homography::dlt_rows(marks, &mut lent[..room]) {
-        Ok(()) => print_places(rt, &lent[..18])?,
-        Err(refusal) => print_refused(rt, refusal)?,
+        Ok(()) => println!(rt; "{name}{}", Places(&lent[..18])),
+        Err(refusal) => println!(rt; "{name} {refusal}"),
     }
-    print(rt, "\n")
 }
 
-fn print_distance(rt: &impl Print, h: Model, m: Mark, ratio: f64) -> io::Result<()> {
-    match sheet::distance(h, m, ratio) {
-        Ok(Some(d)) => print_double(rt, d),
-        Ok(None) => print(rt, " beyond"),
-        Err(refusal) => print_refused(rt, refusal),
-    }
+fn distance(h: Model, m: Mark, ratio: f64) -> Measured {
+    Measured(sheet::distance(h, m, ratio))
 }
 
 fn show_distance(rt: &impl Print, name: &str, h: Model, m: Mark, ratio: f64) -> io::Result<()> {
-    print(rt, name)?;
-    print_distance(rt, h, m, ratio)?;
-    print(rt, "\n")
+    println!(rt; "{name} {}", distance(h, m, ratio))
 }
 
 // The five marks of 01's square, the last printed three too far down.
 fn show_square(rt: &impl Print, name: &str, h: Model) -> io::Result<()> {
-    print(rt, name)?;
-    print_distance(rt, h, at(0.0, 0.0, 0.0, 0.0), 1.0)?;
-    print_distance(rt, h, at(100.0, 0.0, 100.0, 0.0), 1.0)?;
-    print_distance(rt, h, at(100.0, 100.0, 100.0, 100.0), 1.0)?;
-    print_distance(rt, h, at(0.0, 100.0, 0.0, 100.0), 1.0)?;
-    print_distance(rt, h, at(50.0, 50.0, 50.0, 53.0), 1.0)?;
-    print(rt, "\n")
+    let a = distance(h, at(0.0, 0.0, 0.0, 0.0), 1.0);
+    let b = distance(h, at(100.0, 0.0, 100.0, 0.0), 1.0);
+    let c = distance(h, at(100.0, 100.0, 100.0, 100.0), 1.0);
+    let d = distance(h, at(0.0, 100.0, 0.0, 100.0), 1.0);
+    let e = distance(h, at(50.0, 50.0, 50.0, 53.0), 1.0);
+    println!(rt; "{name} {a} {b} {c} {d} {e}")
 }
 
 fn at(x: f64, y: f64, u: f64, v: f64) -> Mark {
@@ -277,23 +274,17 @@ fn lines(rt: &impl Print) -> io::Result<()> {
     let two = &straight[..8];
     let none = &straight[..0];
     let uneven = &straight[..7];
-    show_collinear(
-        rt,
-        "collinear (0,0) (0.0005,0) (0,0.001):",
-        three,
-        Side::Sheet,
-    )?;
-    show_collinear(rt, "collinear two points:", two, Side::Sheet)?;
-    show_collinear(rt, "collinear no points:", none, Side::Sheet)?;
+    show_collinear(rt, "collinear (0,0) (0.0005,0) (0,0.001):", on_sheet(three))?;
+    show_collinear(rt, "collinear two points:", on_sheet(two))?;
+    show_collinear(rt, "collinear no points:", on_sheet(none))?;
     show_collinear(
         rt,
         "collinear (0,0) (1,0) (2,0) (3,0):",
-        &straight,
-        Side::Sheet,
+        on_sheet(&straight),
     )?;
-    show_collinear(rt, "collinear their pixels:", &straight, Side::Pixel)?;
-    show_collinear(rt, "collinear 7 numbers:", uneven, Side::Sheet)?;
-    show_collinear(rt, "collinear x = 2e9:", &wide, Side::Pixel)
+    show_collinear(rt, "collinear their pixels:", on_pixels(&straight))?;
+    show_collinear(rt, "collinear 7 numbers:", on_sheet(uneven))?;
+    show_collinear(rt, "collinear x = 2e9:", on_pixels(&wide))
 }
 
 fn normalisings(rt: &impl Print) -> io::Result<()> {
@@ -313,18 +304,12 @@ fn normalisings(rt: &impl Print) -> io::Result<()> {
     let two = &pair[..8];
     let two_signed = &signed[..8];
     let none = &pair[..0];
-    show_normalized(rt, "normalising (1,1) (-1,-1):", two, Side::Sheet, 4)?;
-    show_normalized(rt, "normalising (-0,1) (-0,3):", two_signed, Side::Sheet, 5)?;
-    show_normalized(rt, "normalising two at (0,0):", two, Side::Pixel, 4)?;
-    show_normalized(
-        rt,
-        "normalising (0,0) (2^-51,0):",
-        two_signed,
-        Side::Pixel,
-        4,
-    )?;
-    show_normalized(rt, "normalising no points:", none, Side::Sheet, 4)?;
-    show_normalized(rt, "normalising two points, 3 places:", two, Side::Sheet, 3)
+    show_normalized(rt, "normalising (1,1) (-1,-1):", on_sheet(two), 4)?;
+    show_normalized(rt, "normalising (-0,1) (-0,3):", on_sheet(two_signed), 5)?;
+    show_normalized(rt, "normalising two at (0,0):", on_pixels(two), 4)?;
+    show_normalized(rt, "normalising (0,0) (2^-51,0):", on_pixels(two_signed), 4)?;
+    show_normalized(rt, "normalising no points:", on_sheet(none), 4)?;
+    show_normalized(rt, "normalising two points, 3 places:", on_sheet(two), 3)
 }
 
 // The square around the origin: its normalised points are its own.
@@ -352,27 +337,17 @@ fn rows(rt: &impl Print) -> io::Result<()> {
 
 // The identity but for h5, h6, h7 and h8.
 fn model(h5: f64, h6: f64, h7: f64, h8: f64) -> Model {
-    Model {
-        h0: 1.0,
-        h1: 0.0,
-        h2: 0.0,
-        h3: 0.0,
-        h4: 1.0,
-        h5,
-        h6,
-        h7,
-        h8,
-    }
+    Model::from([1.0, 0.0, 0.0, 0.0, 1.0, h5, h6, h7, h8])
 }
 
 fn distances(rt: &impl Print) -> io::Result<()> {
     let middle = at(50.0, 50.0, 50.0, 53.0);
+    let here = model(0.0, 0.0, 0.0, 1.0);
     let wide = at(1e9, 1e9, 0.0, 2e9);
-    let none = 0.0 / 0.0;
     show_distance(
         rt,
         "distance under I of (50,50) at pixel (50,53):",
-        model(0.0, 0.0, 0.0, 1.0),
+        here,
         middle,
         1.0,
     )?;
@@ -393,17 +368,11 @@ fn distances(rt: &impl Print) -> io::Result<()> {
     show_distance(
         rt,
         "distance with h8 a NaN, and v = 2e9:",
-        model(0.0, 0.0, 0.0, none),
+        model(0.0, 0.0, 0.0, f64::NAN),
         wide,
         1.0,
     )?;
-    show_distance(
-        rt,
-        "distance with v = 2e9:",
-        model(0.0, 0.0, 0.0, 1.0),
-        wide,
-        1.0,
-    )
+    show_distance(rt, "distance with v = 2e9:", here, wide, 1.0)
 }
 
 fn horizons(rt: &impl Print) -> io::Result<()> {
@@ -446,7 +415,6 @@ fn ratios(rt: &impl Print) -> io::Result<()> {
     let here = model(0.0, 0.0, 0.0, 1.0);
     let low = at(50.0, 50.0, 50.0, 53.0);
     let aside = at(50.0, 50.0, 54.0, 51.5);
-    let infinity = 1.0 / 0.0;
     show_distance(rt, "distance by ratio 2:", here, low, 2.0)?;
     show_distance(rt, "distance by ratio 0.5:", here, low, 0.5)?;
     show_distance(rt, "distance of (4,1.5) off by ratio 2:", here, aside, 2.0)?;
@@ -468,14 +436,14 @@ fn ratios(rt: &impl Print) -> io::Result<()> {
     )?;
     show_distance(rt, "distance by ratio 0:", here, low, 0.0)?;
     show_distance(rt, "distance by ratio -1:", here, low, -1.0)?;
-    show_distance(rt, "distance by ratio infinity:", here, low, infinity)?;
-    show_distance(rt, "distance by ratio NaN:", here, low, infinity - infinity)
+    show_distance(rt, "distance by ratio infinity:", here, low, f64::INFINITY)?;
+    show_distance(rt, "distance by ratio NaN:", here, low, f64::NAN)
 }
 
 // 1, then 6, then 16; beyond where none of them is.
 fn ratios_in_order(rt: &impl Print) -> io::Result<()> {
     let behind = model(0.0, 0.0, 0.0, -1.0);
-    let none = model(0.0, 0.0, 0.0, 0.0 / 0.0);
+    let none = model(0.0, 0.0, 0.0, f64::NAN);
     let low = at(50.0, 50.0, 50.0, 53.0);
     let wide = at(50.0, 50.0, 50.0, 2e9);
     show_distance(
@@ -495,6 +463,7 @@ fn main(rt: HostRuntime) -> io::Result<()> {
     roots(&rt)?;
     quadratics(&rt)?;
     ranks(&rt)?;
+    ranks_of_signs(&rt)?;
     lines(&rt)?;
     normalisings(&rt)?;
     rows(&rt)?;
