@@ -2,18 +2,18 @@
 use mathlib.Core.Path.{◌≡◌, refl, sym, ap, subst, ◌∙◌}
 use mathlib.Core.Bool.{Bool, true, false, cond}
 use mathlib.Core.List.{List, [], ◌∷◌}
-use Prim.Native.Nat.{ℕ, ◌+◌, ◌*◌, ◌/◌, ◌≤◌, ◌<◌}
+use Prim.Native.Nat.{ℕ, zero, suc, ◌+◌, ◌/◌, ◌≤◌, ◌<◌}
 use native.Mathlib.Numerals.{add-one}
 use native.Mathlib.Omega.{arith}
 use borrow.Author.Tests.{le-leb, lt-leb}
-use lib.ListN.{length, take, drop, length-map, get_or-map, drop_of_length-le}
+use lib.ListN.{length, take, drop, get_or, length-map, get_or-map, drop_of_length-le}
 use lib.Seq.{drop-cons}
 use lib.Ieee.{Float}
 use Rattle.std.specs.Prelude.{Ok}
+use Rattle.std.specs.Simd.{first_chunks}
 use Rattle.rule.specs.Answer.{Answer, refused, gives}
 use Rattle.rule.specs.Order.{first_failed}
-use Rattle.rule.specs.Lists.{parts_of}
-use Rattle.rule.proofs.Lists.{parts_count, part_at}
+use Rattle.rule.specs.Lists.{first_parts, parts_of}
 use Rattle.sheet.specs.Marks.{marks_of, marks_tests}
 use Rattle.sheet.specs.declared.model.Model.{Model}
 use Rattle.book.specs.Score.{Judged}
@@ -28,7 +28,7 @@ use Rattle.records.specs.declared.options.RansacOptions.{RansacOptions}
 use Rattle.judge.specs.Judging.{rule_of, Call, judge_of, judge_tested}
 use Rattle.pick.specs.Run.{Run, Booking, book_of, view_state}
 use Rattle.pick.specs.Opening.{fresh_run}
-use Rattle.pick.specs.Trial.{booking_of, tried_in, step_booking, next_of}
+use Rattle.pick.specs.Trial.{booking_of, step_booking, next_of}
 use Rattle.pick.specs.declared.run_state.State.{State}
 use Rattle.pick.proofs.Order.{same-judged}
 use Rattle.salghemu.specs.Whole.{records_in, call_with, judged_in, stop_of, view_ran}
@@ -51,30 +51,43 @@ next_read a r h = go (is_refusal a.outcome) h
     go true e = absurd (let z : ◌≡◌ {A = ℕ} 0 1 = cc in omega (arith, z))
     go false e = (refl, cc)
 
+-- ---- the records as the library cuts them; the lemma that fields has of it is private there
+
+chunks_parts : {A : Type 0} (w n : ℕ) (l : List A) → first_chunks w n l ≡ first_parts w n l
+unfolding first_parts
+chunks_parts w zero l = refl
+chunks_parts w (suc n) l = ap (λ rest. take w l ∷ rest) (chunks_parts w n (drop w l))
+
+parts_in : (trials : List ℕ) {parts : List (List ℕ)} → parts ≡ first_chunks 152 (length trials / 152) trials → parts ≡ records_in trials
+unfolding records_in parts_of
+parts_in trials cut = cut ∙ chunks_parts 152 (length trials / 152) trials
+
+pub by_records : (o : RansacOptions) (l : List Float) (table trials : List ℕ) {parts : List (List ℕ)} → parts ≡ first_chunks 152 (length trials / 152) trials
+    → {r : Stopped Model} → r ≡ stop_of o (length (marks_of l)) l table parts → r ≡ stop_of o (length (marks_of l)) l table (records_in trials)
+by_records o l table trials cut h = h ∙ ap (stop_of o (length (marks_of l)) l table) (parts_in trials cut)
+
 -- ---- a run over marks l and stop entries `table`
 
-module _ (o : RansacOptions) (l : List Float) (table trials : List ℕ) where
+module _ (o : RansacOptions) (l : List Float) (table : List ℕ) (parts : List (List ℕ)) where
   abbrev n : ℕ
   n = length (marks_of l)
 
   abbrev js : List (Judged Model)
-  js = judged_in o n l table (records_in trials)
+  js = judged_in o n l table parts
 
   abbrev whole : Stopped Model
-  whole = stop_of o n l table (records_in trials)
+  whole = stop_of o n l table parts
 
   abbrev judged : List ℕ → Judged Model
   judged bytes = judge_of o n (call_with l table bytes)
 
-  js_count : length js ≡ length trials / 152
-  unfolding judged_in records_in parts_of
-  js_count = length-map (records_in trials) judged ∙ parts_count 152 (length trials / 152) trials
+  js_count : length js ≡ length parts
+  unfolding judged_in
+  js_count = length-map parts judged
 
-  js_from : (i : ℕ) → i < length trials / 152 → drop i js ≡ judged (take 152 (drop (152 * i) trials)) ∷ drop (i + 1) js
-  unfolding judged_in records_in parts_of
-  js_from i h =
-      drop-cons js i (judged []) (rw js_count h)
-      ∙ rw (get_or-map judged (records_in trials) i [], part_at 152 (length trials / 152) i trials [] h, add-one i)
+  js_from : (i : ℕ) → i < length parts → drop i js ≡ judged (get_or parts i []) ∷ drop (i + 1) js
+  unfolding judged_in
+  js_from i h = drop-cons js i (judged []) (rw js_count h) ∙ rw (get_or-map judged parts i [], add-one i)
 
   pub record Going (i : ℕ) (s : State) : Type 0 where
     pub options : s.options ≡ o
@@ -98,12 +111,12 @@ module _ (o : RansacOptions) (l : List Float) (table trials : List ℕ) where
     unfolding has_ended ended_at
     going_late h = run_late (rule_of o) (book_of s) (le-leb s.counts.bound s.counts.read h) (drop i js) ∙ g.owed
 
-    pub going_out : length trials / 152 ≤ i → view_ran (Ok s) ≡ whole
+    pub going_out : length parts ≤ i → view_ran (Ok s) ≡ whole
     going_out h = run_out (rule_of o) (book_of s) (drop i js) (let past : length js ≤ i = rw js_count h in drop_of_length-le js past) ∙ g.owed
 
-    module _ (valid : 0 ≡ first_failed (options_tests o)) (tested : 0 ≡ first_failed (marks_tests l)) (early : s.counts.read < s.counts.bound) (here : i < length trials / 152) where
+    module _ (valid : 0 ≡ first_failed (options_tests o)) (tested : 0 ≡ first_failed (marks_tests l)) (early : s.counts.read < s.counts.bound) (here : i < length parts) where
       abbrev bytes : List ℕ
-      bytes = take 152 (drop (152 * i) trials)
+      bytes = get_or parts i []
 
       abbrev next : Entered Model
       next = entered (rule_of o) (book_of s) (judged bytes)
@@ -130,13 +143,10 @@ module _ (o : RansacOptions) (l : List Float) (table trials : List ℕ) where
       owed_is : run_over (rule_of o) (book_of s) (judged bytes ∷ drop (i + 1) js) ≡ whole
       owed_is = ap (run_over (rule_of o) (book_of s)) (sym (js_from i here)) ∙ g.owed
 
-      module _ {a : Answer Run} {w : ℕ} (step : a ≡ next_of (step_booking (view_state s) (record { bytes = take w (drop (152 * i) trials); marks = l; stops = table }))) (wide : w ≡ 152) where
-        of_152 : a ≡ next_of (step_booking (view_state s) call)
-        of_152 = step ∙ ap (λ (k : ℕ). next_of (step_booking (view_state s) (record { bytes = take k (drop (152 * i) trials); marks = l; stops = table }))) wide
-
+      module _ {a : Answer Run} (step : a ≡ next_of (step_booking (view_state s) call)) where
         nexts : a ≡ next_of (booking_of (view_state s) next)
         unfolding step_booking
-        nexts = of_152 ∙ ap (λ (x : Entered Model). next_of (booking_of (view_state s) x)) tried_is
+        nexts = step ∙ ap (λ (x : Entered Model). next_of (booking_of (view_state s) x)) tried_is
 
         pub going_broken : {k : ℕ} → a ≡ refused k → broken k ≡ whole
         going_broken {k} e =
@@ -165,9 +175,9 @@ module _ (o : RansacOptions) (k : ℕ) (s₀ : State) (opened : view_state s₀ 
   unfolding fresh_run
   own-options = ap (λ (r : Run). r.options) opened
 
-  module _ (l : List Float) (table trials : List ℕ) {i : ℕ} {s : State} where
-    pub going_own : Going s₀.options l table trials i s → Going o l table trials i s
-    going_own g = subst (λ p. Going p l table trials i s) own-options g
+  module _ (l : List Float) (table : List ℕ) (parts : List (List ℕ)) {i : ℕ} {s : State} where
+    pub going_own : Going s₀.options l table parts i s → Going o l table parts i s
+    going_own g = subst (λ p. Going p l table parts i s) own-options g
 
-    pub going_back : Going o l table trials i s → Going s₀.options l table trials i s
-    going_back g = subst (λ p. Going p l table trials i s) (sym own-options) g
+    pub going_back : Going o l table parts i s → Going s₀.options l table parts i s
+    going_back g = subst (λ p. Going p l table parts i s) (sym own-options) g

@@ -25,18 +25,17 @@ fn read_trials(
     stops: &[u32],
     trials: &[u8],
 ) -> Result<State, Refusal>
-    requires value { 0 ≡ first_failed (options_tests o) }
-    requires value_2 { 0 ≡ first_failed (marks_tests marks.now) }
+    requires options_pass { 0 ≡ first_failed (options_tests o) }
+    requires marks_pass { 0 ≡ first_failed (marks_tests marks.now) }
     ensures { view_ran result ≡ stop_of o (length (marks_of marks.now)) marks.now stops.now (records_in trials.now) }
 {
     let mut squares = [0.0; 2000];
     let mut s = pick::fresh_run(o, sheet::mark_count(marks));
-    for i in 0..trials.len() / 152 {
+    let (parts, _) = trials.as_chunks::<152>();
+    for bytes in parts {
         if s.counts.bound <= s.counts.read {
             return Ok(s);
         }
-        let a = 152 * i;
-        let bytes = &trials[a..a + 152];
         let call = Call {
             bytes,
             marks,
@@ -82,10 +81,7 @@ fn check_later(
     if trials % 152 != 0 {
         return Err(Refusal::Record);
     }
-    if winner < 88 {
-        return Err(Refusal::Room);
-    }
-    if indices < 4 * n {
+    if winner < 88 || indices < 4 * n {
         return Err(Refusal::Room);
     }
     Ok(())
@@ -100,7 +96,7 @@ fn won(
     winner: usize,
     indices: usize,
 ) -> Result<Winner, Refusal>
-    requires value { 0 ≡ first_failed (options_tests o) }
+    requires options_pass { 0 ≡ first_failed (options_tests o) }
     requires numbers_len { length numbers.now % 4 ≡ 0 }
     requires numbers_len_bound { length numbers.now ≤ 8000 }
     ensures { told view_winner result ≡ later_answer o numbers.now (length (marks_of numbers.now)) stops.now trials.now winner indices }
@@ -140,10 +136,7 @@ fn run_options(
     ensures { Gave (options_answer o marks.now stops.now trials.now (length winner.old) (length indices.old)) o (numbers_in marks.now) winner.old indices.old (refusal_in result) winner.new indices.new }
 {
     records::validate(o)?;
-    if marks.len() % 32 != 0 {
-        return Err(Refusal::Shape);
-    }
-    if 64_000 < marks.len() {
+    if marks.len() % 32 != 0 || 64_000 < marks.len() {
         return Err(Refusal::Shape);
     }
     let mut room = [0.0; 8000];

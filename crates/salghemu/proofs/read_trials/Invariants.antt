@@ -2,5 +2,5 @@
 use Rattle.salghemu.proofs.Going.{Going}
 use Rattle.salghemu.proofs.read_trials.Given as goal
 
-abbrev pub invariant-loop-i : goal.invariant-loop-i
-invariant-loop-i l = Going l.initial.s.options l.marks l.stops l.trials l.i l.s
+abbrev pub invariant-loop-bytes : goal.invariant-loop-bytes
+invariant-loop-bytes l = Going l.initial.s.options l.marks l.stops l.parts l.bytes-index l.s

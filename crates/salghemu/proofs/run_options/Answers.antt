@@ -6,7 +6,7 @@ use Rattle.std.proofs.lemmas.Result.{err_from_is_err_and}
 use Rattle.records.specs.Marks.{numbers_in}
 use Rattle.salghemu.specs.Whole.{index_bytes, laid_over}
 use Rattle.salghemu.proofs.Chain.{Passed, won_passed, options_failed, cut_failed, long_failed, by_numbers, numbers-taken, numbers-shape, gave_refused, gave_winner}
-use Rattle.salghemu.proofs.run_options.Goals.{After-read_marks, In_ok-w}
+use Rattle.salghemu.proofs.run_options.Goals.{After-read_marks, In_ok-w, then-marks-ne0-via-then-marks-ne0, then-marks-ne0-via-else-marks-ne0+then-marks-gt64000}
 use Rattle.salghemu.proofs.run_options.Goals as goal
 
 -- the numbers that are read are the marks', in the right shape
@@ -24,10 +24,11 @@ returns-in_err-validate c =
     rw (p.1, p.2) (gave_refused _ _ _ _ (options_failed _ _ _ _ _ _ _ c.in_err-validate.ensures))
 
 pub returns-then-marks-ne0 : goal.returns-then-marks-ne0
-returns-then-marks-ne0 c = gave_refused _ _ _ _ (cut_failed _ _ _ _ _ _ c.in_ok-validate.ensures c.if-marks-ne0.true)
-
-pub returns-then-marks-gt64000 : goal.returns-then-marks-gt64000
-returns-then-marks-gt64000 c = gave_refused _ _ _ _ (long_failed _ _ _ _ _ _ c.in_ok-validate.ensures c.if-marks-ne0.false c.if-marks-gt64000.true)
+returns-then-marks-ne0 c =
+    gave_refused _ _ _ _ (elim c.then-marks-ne0.branch [
+      | then-marks-ne0-via-then-marks-ne0 w ↦ cut_failed _ _ _ _ _ _ c.in_ok-validate.ensures w.if-marks-ne0.true
+      | then-marks-ne0-via-else-marks-ne0+then-marks-gt64000 w ↦ long_failed _ _ _ _ _ _ c.in_ok-validate.ensures w.if-marks-ne0.false w.if-marks-gt64000.true
+    ])
 
 pub returns-in_err-w : goal.returns-in_err-w
 returns-in_err-w c =

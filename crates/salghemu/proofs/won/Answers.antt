@@ -1,9 +1,9 @@
 -- `salghemu::won` meets its contract. Assumes nothing.
-use mathlib.Core.Path.{refl, sym, ap, ◌∙◌}
+use mathlib.Core.Path.{refl, sym, ◌∙◌}
 use native.Mathlib.Omega.{arith}
 use lib.ListN.{length}
 use Rattle.std.proofs.lemmas.Result.{err_from_is_err_and}
-use Rattle.salghemu.specs.Whole.{result_of, won_by}
+use Rattle.salghemu.specs.Whole.{result_of}
 use Rattle.salghemu.proofs.Chain.{Passed, small-marks, all_passed_is, later-refused, entries-inside, entries_cut, entries_are, later-given, won_or}
 use Rattle.salghemu.proofs.won.Goals.{After-mark_count-n}
 use Rattle.salghemu.proofs.won.Goals as goal
@@ -27,8 +27,8 @@ pub slice_bounds-read_trials-end : goal.slice_bounds-read_trials-end
 slice_bounds-read_trials-end c =
     entries_cut _ _ _ refl c.read_words.ensures (small-marks _ c.requires.numbers_len_bound refl) (passed (goal.at.slice_bounds-read_trials-end c).After-mark_count-n).entries c.mark_count-n.ensures
 
-pub read_trials-requires-clause-value_2 : goal.read_trials-requires-clause-value_2
-read_trials-requires-clause-value_2 c = (passed (goal.at.read_trials-requires-clause-value_2 c).After-mark_count-n).marks_pass
+pub read_trials-requires-clause-marks_pass : goal.read_trials-requires-clause-marks_pass
+read_trials-requires-clause-marks_pass c = (passed (goal.at.read_trials-requires-clause-marks_pass c).After-mark_count-n).marks_pass
 
 pub returns-in_err-last : goal.returns-in_err-last
 unfolding result_of
