@@ -28,22 +28,26 @@ use Rattle.probe.specs.Flat.{entry_of}
 abbrev pub in_rows : List Row → ℕ → Float
 in_rows rows place = get_or (get_or rows (place / 3) (record { cells = [] })).cells (place % 3) nan
 
+-- what holds of each place below 9
+each_below_9 : (P : ℕ → Type 0) → P 0 → P 1 → P 2 → P 3 → P 4 → P 5 → P 6 → P 7 → P 8 → (place : ℕ) → place < 9 → P place
+each_below_9 P a b c d e f g h i zero k = a
+each_below_9 P a b c d e f g h i (suc zero) k = b
+each_below_9 P a b c d e f g h i (suc (suc zero)) k = c
+each_below_9 P a b c d e f g h i (suc (suc (suc zero))) k = d
+each_below_9 P a b c d e f g h i (suc (suc (suc (suc zero)))) k = e
+each_below_9 P a b c d e f g h i (suc (suc (suc (suc (suc zero))))) k = f
+each_below_9 P a b c d e f g h i (suc (suc (suc (suc (suc (suc zero)))))) k = g
+each_below_9 P a b c d e f g h i (suc (suc (suc (suc (suc (suc (suc zero))))))) k = h
+each_below_9 P a b c d e f g h i (suc (suc (suc (suc (suc (suc (suc (suc zero)))))))) k = i
+each_below_9 P a b c d e f g h i (suc (suc (suc (suc (suc (suc (suc (suc (suc place))))))))) k = absurd (omega (arith, k))
+
 module _ (a b c d e f g h i : Float) where
   abbrev nine : List Row
   nine = record { cells = a ∷ b ∷ c ∷ [] } ∷ record { cells = d ∷ e ∷ f ∷ [] } ∷ record { cells = g ∷ h ∷ i ∷ [] } ∷ []
 
   inside : (place : ℕ) → place < 9 → in_rows nine place ≡ entry_of place nine
   unfolding for_each
-  inside zero k = refl
-  inside (suc zero) k = refl
-  inside (suc (suc zero)) k = refl
-  inside (suc (suc (suc zero))) k = refl
-  inside (suc (suc (suc (suc zero)))) k = refl
-  inside (suc (suc (suc (suc (suc zero))))) k = refl
-  inside (suc (suc (suc (suc (suc (suc zero)))))) k = refl
-  inside (suc (suc (suc (suc (suc (suc (suc zero))))))) k = refl
-  inside (suc (suc (suc (suc (suc (suc (suc (suc zero)))))))) k = refl
-  inside (suc (suc (suc (suc (suc (suc (suc (suc (suc place))))))))) k = absurd (omega (arith, k))
+  inside place k = each_below_9 (λ p. in_rows nine p ≡ entry_of p nine) refl refl refl refl refl refl refl refl refl place k
 
   beyond : (place : ℕ) → 9 ≤ place → nan ≡ entry_of place nine
   unfolding for_each
@@ -51,16 +55,7 @@ module _ (a b c d e f g h i : Float) where
 
 zero_inside : (place : ℕ) → place < 9 → zero' ≡ entry_of place no_matrix
 unfolding for_each
-zero_inside zero k = refl
-zero_inside (suc zero) k = refl
-zero_inside (suc (suc zero)) k = refl
-zero_inside (suc (suc (suc zero))) k = refl
-zero_inside (suc (suc (suc (suc zero)))) k = refl
-zero_inside (suc (suc (suc (suc (suc zero))))) k = refl
-zero_inside (suc (suc (suc (suc (suc (suc zero)))))) k = refl
-zero_inside (suc (suc (suc (suc (suc (suc (suc zero))))))) k = refl
-zero_inside (suc (suc (suc (suc (suc (suc (suc (suc zero)))))))) k = refl
-zero_inside (suc (suc (suc (suc (suc (suc (suc (suc (suc place))))))))) k = absurd (omega (arith, k))
+zero_inside place k = each_below_9 (λ p. zero' ≡ entry_of p no_matrix) refl refl refl refl refl refl refl refl refl place k
 
 -- the matrix of a change, or zeros
 of_change : (c : Change) (place : ℕ) → place < 9 → in_rows (matrix_of c) place ≡ entry_of place (matrix_of c)
