@@ -69,6 +69,10 @@ point l = record { fails = not (all_within farthest l); number = POINT }
 unfoldable pub few : List Float → Test
 few l = record { fails = ltb (length (marks_of l)) 4; number = FEW }
 
+-- the one that takes no walk over the numbers
+unfoldable pub shape_tests : List Float → List Test
+shape_tests l = shape l ∷ []
+
 -- what every entry asks of its marks first
 unfoldable pub marks_tests : List Float → List Test
 marks_tests l = shape l ∷ point l ∷ []

@@ -4,7 +4,7 @@ ghost use Rattle.rule.specs.Answer.{refusal_in};
 ghost use Rattle.rule.specs.Order.{first_failed};
 ghost use Rattle.numbers.specs.Constants.{farthest};
 ghost use Rattle.numbers.specs.Finite.{within};
-ghost use Rattle.sheet.specs.Marks.{marks_of, mark_at, point_of, point_at, points, squared_apart, all_within, marks_tests};
+ghost use Rattle.sheet.specs.Marks.{marks_of, mark_at, point_of, point_at, points, squared_apart, all_within, shape_tests, marks_tests};
 
 use rule::Refusal;
 
@@ -126,10 +126,10 @@ pub fn all_in_range(numbers: &[f64]) -> bool
     numbers.iter().all(|x| in_range(*x))
 }
 
-// The tests of a list of marks, in order: refused with 5 or 6.
-#[tactic(auto, unfolding(rule::specs::Order::first_failed, crate::specs::Marks::marks_tests, crate::specs::Marks::shape, crate::specs::Marks::point))]
-pub fn check_marks(marks: &[f64]) -> Result<(), Refusal>
-    ensures { refusal_in result ≡ first_failed (marks_tests marks.now) }
+// The test of a list's shape, four numbers to a mark and 8,000 at most: refused with 5.
+#[tactic(auto, unfolding(rule::specs::Order::first_failed, crate::specs::Marks::shape_tests, crate::specs::Marks::shape))]
+pub fn check_shape(marks: &[f64]) -> Result<(), Refusal>
+    ensures { refusal_in result ≡ first_failed (shape_tests marks.now) }
 {
     if marks.len() % 4 != 0 {
         return Err(Refusal::Shape);
@@ -137,6 +137,15 @@ pub fn check_marks(marks: &[f64]) -> Result<(), Refusal>
     if 8000 < marks.len() {
         return Err(Refusal::Shape);
     }
+    Ok(())
+}
+
+// The tests of a list of marks, in order: refused with 5 or 6.
+#[tactic(auto, unfolding(rule::specs::Order::first_failed, crate::specs::Marks::marks_tests, crate::specs::Marks::shape_tests, crate::specs::Marks::shape, crate::specs::Marks::point))]
+pub fn check_marks(marks: &[f64]) -> Result<(), Refusal>
+    ensures { refusal_in result ≡ first_failed (marks_tests marks.now) }
+{
+    check_shape(marks)?;
     if !all_in_range(marks) {
         return Err(Refusal::Point);
     }
