@@ -15,7 +15,7 @@ pub struct RansacOptions {
     pub confidence: f64,
     pub max_iters: u32,
     pub min_inliers: u32,
-    // whether a trial's refit may stand in for its fit
+    // whether a trial's refit may stand in for its fit: a flag of the options by document 01
     pub refit: bool,
     // what a difference along v is multiplied by
     pub ratio: f64,
