@@ -1,5 +1,5 @@
 -- Document 01, 'Trials': a call of a sheet's run (a record, marks, stops), its tests but for 10, and what it comes to by itself, before the book is looked at.
-use Rattle.std.specs.Prelude.{not, cond, List, [], ◌∷◌, ◌++◌, map, ℕ, suc, eqb, ltb, length, Float, Option, Some, None, Result, Ok, Err}
+use Rattle.std.specs.Prelude.{not, cond, List, [], ◌∷◌, ◌++◌, map, ℕ, suc, eqb, ltb, length, Float, Result, Ok, Err}
 use Rattle.rule.specs.Refusal.{SHAPE, STOPS, number_of}
 use Rattle.rule.specs.declared.Refusal.{Refusal}
 use Rattle.rule.specs.Lists.{filled}
@@ -79,11 +79,6 @@ abbrev pub judgement_tested : RansacOptions → ℕ → Call → Judgement Model
 judgement_tested o n c = record { worth = judge_tested o n c; beyond = beyond_by (tested_tests n c) c }
 
 -- ---- what the code answers
-
--- a fit and, where there is one, its refit
-abbrev pub refitted_by : Model → Option Model → Trial Model
-refitted_by fit None = fitted fit
-refitted_by fit (Some refit) = refitted fit refit
 
 -- what a verdict stands for, by what a scored one has
 abbrev pub judged_as : {S : Type 0} → (S → Score.Standing Model) → Verdict S → Judged Model

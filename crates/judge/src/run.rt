@@ -3,12 +3,12 @@ ghost use Rattle.std.specs.Prelude.{◌≡◌, ◌≤◌, Option, length};
 ghost use Rattle.rule.specs.Lists.{filled};
 ghost use Rattle.numbers.specs.Measure.{if_counted};
 ghost use Rattle.book.specs.Score.{count_under, stop_at, judge_trial, beyond_fit};
-ghost use Rattle.records.specs.Trial.{view_recorded};
+ghost use Rattle.records.specs.Trial.{refitted_by, view_recorded};
 ghost use Rattle.measure.specs.Distances.{distances_of, beyond_of, squares_of};
-ghost use Rattle.judge.specs.Judging.{rule_of, rms_under, supported, judged_as, refitted_by, squares_after};
+ghost use Rattle.judge.specs.Judging.{rule_of, rms_under, supported, judged_as, squares_after};
 
 use crate::{Judgement, Support, Verdict};
-use records::{RansacOptions, Recorded};
+use records::{Fitted, RansacOptions};
 use sheet::Model;
 
 // The options, and marks and stop entries that a call's tests have passed: few enough marks for a list
@@ -73,7 +73,7 @@ impl<'a> Run<'a> {
     #[tactic(auto, unfolding(book::specs::Score::judge_trial, book::specs::Score::beyond_fit, numbers::specs::Measure::if_counted, crate::specs::Judging::squares_after))]
     pub fn judge_trial(
         self,
-        trial: Recorded,
+        trial: Option<Fitted>,
         squares: &mut [f64; 2000],
         counting: bool,
     ) -> Judgement<Support>
@@ -82,12 +82,11 @@ impl<'a> Run<'a> {
         ensures squares_after { squares.new ≡ squares_after self.entry.options self.entry.marks.now self.entry.stops.now (view_recorded trial) squares.old }
     {
         match trial {
-            Recorded::Empty => Judgement {
+            None => Judgement {
                 verdict: Verdict::Empty,
                 beyond: 0,
             },
-            Recorded::Fit(fit) => self.judge_fit(fit, None, squares, counting),
-            Recorded::Refit(pair) => self.judge_fit(pair.fit, Some(pair.refit), squares, counting),
+            Some(t) => self.judge_fit(t.fit, t.refit, squares, counting),
         }
     }
 

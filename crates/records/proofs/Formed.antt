@@ -1,12 +1,15 @@
 -- Options and trials, one law for each way out of their readers. Assumes nothing.
 use mathlib.Core.Path.{◌≡◌, refl, sym, ap, ◌∙◌}
-use mathlib.Core.Bool.{Bool, true, false, not, cond, ◌&&◌}
+use mathlib.Core.Bool.{Bool, true, false, not, cond, ◌&&◌, ◌||◌, true≢false}
 use mathlib.Core.List.{List, [], ◌∷◌, map}
 use Prim.Native.Nat.{ℕ, ◌+◌, ◌-◌, ◌*◌, ◌≤◌, ◌<◌}
 use native.Mathlib.Omega.{arith}
 use borrow.Author.Tests.{eq-eqb, ne_eqb, eqb-true, eqb-false, ltb-false}
 use mir.Syntax.{w8}
 use mir.Val.{Fits}
+use Rattle.std.specs.Bool.{then_some}
+use Rattle.std.specs.Prelude.{Option}
+use Rattle.std.proofs.lemmas.Bool.{and_parts}
 use Rattle.std.proofs.lemmas.List.{drop-take}
 use Rattle.std.proofs.lemmas.List.FromFn.{fill_by_all}
 use lib.Dec.{T, leb, eqb, ltb}
@@ -29,7 +32,8 @@ use Rattle.fields.specs.Packing.{size_of, unpacked}
 use Rattle.fields.proofs.Reading.{longs_count, long_spelled}
 use Rattle.fields.proofs.Packing.{Fit, fit-taken, fit-left, unpacked-fit}
 use Rattle.records.specs.Options.{layout_by, fields_in, options_sound, ratio_from, options_from, options_formed, options_record, options_of, options_answer, thresh, confidence, iters, options_tests}
-use Rattle.records.specs.Trial.{trial_layout, model_from, marked, marks_formed, numbers_formed, trial_sound, trial_from, trial_formed, trial_record, trial_of, trial_answer, nine_in, fit_bits, refit_bits, parts_formed, doubles_formed}
+use Rattle.records.specs.Trial.{trial_layout, model_from, marked, marks_formed, numbers_formed, trial_sound, trial_from, trial_formed, trial_record, trial_of, trial_answer, nine_in, fit_bits, refit_bits, parts_formed, doubles_formed, view_recorded}
+use Rattle.records.specs.declared.trial.Fitted.{Fitted}
 use Rattle.records.specs.declared.options.RansacOptions.{RansacOptions}
 use Rattle.records.proofs.Bits.{formed_again, bytes_read}
 use Rattle.records.proofs.Placed.{short_size, options_size, thresh_placed, confidence_placed, iters_placed, inliers_placed, refit_placed, filler_placed, ratio-none, ratio_placed, trial_size, fit_placed, refit_mark_placed, trial_filler_placed, fit_bits_placed, refit_bits_placed}
@@ -156,6 +160,20 @@ module _ (l : List ℕ) (i : ℕ) (inside : 8 * i + 72 ≤ length l) where
       let count : length bits ≡ 9 = length-take-le 9 (drop i (longs_of l)) (rw (length-drop i (longs_of l), longs_count l) (omega arith)) in
       sym (fill_by_all (double_at part) (map (of_bits binary64) bits) 9 (of_bits binary64 0) (length-map bits (of_bits binary64) ∙ count) (λ k h. sym (number_there k h)))
 
+-- Marks that may stand in a record mark no refit without a fit, so the code's trial is the record's.
+ordered : (a b : ℕ) → marks_formed a b ≡ true → (eqb a 1 || not (eqb b 1)) ≡ true
+unfolding marks_formed
+ordered a b h = (and_parts (leb b 1) _ (and_parts (leb a 1) _ h).1).1
+
+abbrev pub given_by : (fit_mark refit_mark : Bool) → (fit refit : Model) → Option Fitted
+given_by a b fit refit = then_some a (record { fit = fit; refit = then_some b refit })
+
+given_is : (a b : Bool) (fit refit : Model) → (a || not b) ≡ true → cond b (refitted fit refit) (cond a (fitted fit) unfitted) ≡ view_recorded (given_by a b fit refit)
+given_is true true fit refit h = refl
+given_is true false fit refit h = refl
+given_is false true fit refit h = absurd (true≢false (sym h))
+given_is false false fit refit h = refl
+
 module _ (l : List ℕ) (size : length l ≡ 152) (bytes : (i : ℕ) → Fits w8 (get_or l i 0)) where
   abbrev f : List ℕ
   f = unpacked trial_layout l
@@ -189,17 +207,27 @@ module _ (l : List ℕ) (size : length l ≡ 152) (bytes : (i : ℕ) → Fits w8
       rw (trial_size, eq-eqb (length l) 152 size, ← fit_placed l size, ← refit_mark_placed l size, ← trial_filler_placed l size, ← fit_formed, ← refit_formed)
       (in_turn (marks_formed (get_or l 0 0) (get_or l 1 0)) (zero_bytes 2 8 l) _)
 
-  -- the trial of the marks and the numbers
-  abbrev given : Trial Model
-  given = cond (eqb (get_or l 1 0) 1) (refitted (model_of fit) (model_of refit)) (cond (eqb (get_or l 0 0) 1) (fitted (model_of fit)) unfitted)
+  abbrev sound : Bool
+  sound = zero_bytes 2 8 l && parts_formed (get_or l 0 0) (get_or l 1 0) fit refit
 
-  trial_there : trial_of l ≡ given
-  unfolding trial_of trial_from marked byte_at model_from
-  trial_there = rw (← fit_placed l size, ← refit_mark_placed l size, ← fit_is, ← refit_is)
+  -- what the code makes of the marks and the numbers
+  abbrev given : Option Fitted
+  given = given_by (eqb (get_or l 0 0) 1) (eqb (get_or l 1 0) 1) (model_of fit) (model_of refit)
 
-  pub trial_read : trial_answer l ≡ cond (zero_bytes 2 8 l && parts_formed (get_or l 0 0) (get_or l 1 0) fit refit) (gives given) (refused RECORD)
+  trial_there : sound ≡ true → trial_of l ≡ view_recorded given
+  unfolding trial_of trial_from marked byte_at model_from parts_formed
+  trial_there h =
+      let marks = (and_parts (marks_formed (get_or l 0 0) (get_or l 1 0)) _ (and_parts (zero_bytes 2 8 l) _ h).1).0 in
+      rw (← fit_placed l size, ← refit_mark_placed l size, ← fit_is, ← refit_is)
+      (given_is (eqb (get_or l 0 0) 1) (eqb (get_or l 1 0) 1) (model_of fit) (model_of refit) (ordered (get_or l 0 0) (get_or l 1 0) marks))
+
+  pub trial_read : trial_answer l ≡ cond sound (gives (view_recorded given)) (refused RECORD)
   unfolding trial_answer trial_record
-  trial_read = by_test (trial_formed l) (trial_of l) ∙ rw (formed_there, trial_there)
+  trial_read = by_test (trial_formed l) (trial_of l) ∙ rw formed_there (go sound trial_there)
+    where
+      go : (b : Bool) → (b ≡ true → trial_of l ≡ view_recorded given) → ◌≡◌ {A = Answer (Trial Model)} (cond b (gives (trial_of l)) (refused RECORD)) (cond b (gives (view_recorded given)) (refused RECORD))
+      go true same = ap gives (same refl)
+      go false same = refl
 
 pub other_length : (l : List ℕ) → (length l ≡ 152 → ⊥) → trial_answer l ≡ refused RECORD
 unfolding trial_answer trial_record trial_formed

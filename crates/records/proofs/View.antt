@@ -1,29 +1,31 @@
 -- What the readers answer is fixed by a contract on its view: a view tells any two answers apart. Assumes nothing.
 use mathlib.Core.Path.{◌≡◌, refl}
-use Rattle.std.specs.Prelude.{Result}
+use Rattle.std.specs.Prelude.{Result, Option, Some, None}
 use Rattle.rule.specs.Answer.{told, answered}
 use Rattle.rule.specs.declared.Refusal.{Refusal}
 use Rattle.rule.proofs.Views.{told_one, answered_one}
 use Rattle.sheet.specs.declared.model.Model.{Model}
 use Rattle.book.specs.Score.{Trial, unfitted, fitted, refitted}
-use Rattle.records.specs.Trial.{view_recorded}
+use Rattle.records.specs.Trial.{refitted_by, view_recorded}
 use Rattle.records.specs.declared.options.RansacOptions.{RansacOptions}
-use Rattle.records.specs.declared.trial.Recorded.{Recorded}
-use Rattle.records.specs.declared.trial.Recorded.TheVariants.{Empty, Fit, Refit}
+use Rattle.records.specs.declared.trial.Fitted.{Fitted}
 
 pub options-one : (x y : Result RansacOptions Refusal) → answered x ≡ answered y → x ≡ y
 options-one = answered_one
 
-recorded_of : Trial Model → Recorded
-recorded_of unfitted = Empty
-recorded_of (fitted m) = Fit m
-recorded_of (refitted m n) = Refit (record { fit = m; refit = n })
+recorded_of : Trial Model → Option Fitted
+recorded_of unfitted = None
+recorded_of (fitted m) = Some (record { fit = m; refit = None })
+recorded_of (refitted m n) = Some (record { fit = m; refit = Some n })
 
-recorded_back : (x : Recorded) → recorded_of (view_recorded x) ≡ x
+recorded_back : (x : Option Fitted) → recorded_of (view_recorded x) ≡ x
 unfolding recorded_of
-recorded_back Empty = refl
-recorded_back (Fit m) = refl
-recorded_back (Refit p) = refl
+recorded_back None = refl
+recorded_back (Some t) = go t.refit
+  where
+    go : (r : Option Model) → recorded_of (refitted_by t.fit r) ≡ Some (record { fit = t.fit; refit = r })
+    go None = refl
+    go (Some n) = refl
 
-pub recorded_one : (x y : Result Recorded Refusal) → told view_recorded x ≡ told view_recorded y → x ≡ y
+pub recorded_one : (x y : Result (Option Fitted) Refusal) → told view_recorded x ≡ told view_recorded y → x ≡ y
 recorded_one = told_one view_recorded recorded_of recorded_back

@@ -1,5 +1,5 @@
 -- Document 01, 'Trials': the 152-byte record. Byte 0 fit mark, byte 1 refit mark, six zero bytes, nine doubles of the fit, nine of the refit.
-use Rattle.std.specs.Prelude.{Bool, not, cond, ◌&&◌, ◌||◌, List, [], ◌∷◌, map, ℕ, leb, eqb, length, get_or, take, drop, replicate, Float}
+use Rattle.std.specs.Prelude.{Bool, not, cond, ◌&&◌, ◌||◌, List, [], ◌∷◌, map, ℕ, leb, eqb, length, get_or, take, drop, replicate, Float, Option, Some, None}
 use Rattle.std.specs.List.{range_with_len}
 use Rattle.std.specs.Float.{binary64}
 use Rattle.std.specs.Float.Ieee.{of_bits, to_bits}
@@ -13,8 +13,7 @@ use Rattle.sheet.specs.declared.model.Model.{Model}
 use Rattle.book.specs.Score.{Trial, unfitted, fitted, refitted}
 use Rattle.fields.specs.Fields.{double_at}
 use Rattle.fields.specs.Packing.{size_of, unpacked}
-use Rattle.records.specs.declared.trial.Recorded.{Recorded}
-use Rattle.records.specs.declared.trial.Recorded.TheVariants.{Empty, Fit, Refit}
+use Rattle.records.specs.declared.trial.Fitted.{Fitted}
 
 unfoldable pub trial_layout : List ℕ
 trial_layout = 1 ∷ 1 ∷ 6 ∷ replicate 18 8
@@ -84,8 +83,12 @@ trial_of l = trial_from (unpacked trial_layout l)
 unfoldable pub trial_answer : List ℕ → Answer (Trial Model)
 trial_answer l = decided (first_failed (trial_record l ∷ [])) (trial_of l)
 
+-- a fit and, where there is one, its refit
+abbrev pub refitted_by : Model → Option Model → Trial Model
+refitted_by fit None = fitted fit
+refitted_by fit (Some refit) = refitted fit refit
+
 -- what the code's trial stands for
-abbrev pub view_recorded : Recorded → Trial Model
-view_recorded Empty = unfitted
-view_recorded (Fit m) = fitted m
-view_recorded (Refit p) = refitted p.fit p.refit
+abbrev pub view_recorded : Option Fitted → Trial Model
+view_recorded None = unfitted
+view_recorded (Some t) = refitted_by t.fit t.refit

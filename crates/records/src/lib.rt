@@ -8,4 +8,4 @@ mod trial;
 
 pub use marks::{read_mark, read_marks};
 pub use options::{RansacOptions, marked, read_options, validate};
-pub use trial::{Recorded, Refitted, marks_formed, parts_formed, read_trial};
+pub use trial::{Fitted, marks_formed, parts_formed, read_trial};

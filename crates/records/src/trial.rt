@@ -10,18 +10,11 @@ use rule::Refusal;
 use sheet::Model;
 use std::array;
 
+// A trial's fit and, where it has one, its refit.
 #[derive(Clone, Copy)]
-pub struct Refitted {
+pub struct Fitted {
     pub fit: Model,
-    pub refit: Model,
-}
-
-// A trial: no fit, a fit, or a fit with its refit.
-#[derive(Clone, Copy)]
-pub enum Recorded {
-    Empty,
-    Fit(Model),
-    Refit(Refitted),
+    pub refit: Option<Model>,
 }
 
 // The nine numbers at the front of `bytes`.
@@ -32,7 +25,9 @@ fn nine_in(bytes: &[u8]) -> [f64; 9]
     array::from_fn(|k| fields::double_at(bytes, k))
 }
 
-// Whether each of a trial's marks is 0 or 1, and there is no refit without a fit.
+// Whether each of a trial's marks is 0 or 1, and there is no refit without a fit, which is one test of
+// their order. They are bytes and no flags, since any byte may come: from a record, and from C by way
+// of the writer.
 #[tactic(auto, unfolding(crate::specs::Trial::marks_formed))]
 pub fn marks_formed(fit: u8, refit: u8) -> bool
     ensures { result ≡ marks_formed fit refit }
@@ -68,9 +63,9 @@ pub fn parts_formed(fit_mark: u8, refit_mark: u8, fit: &[f64], refit: &[f64]) ->
         && numbers_formed(refit_mark == 1, refit)
 }
 
-// The trial of a 152-byte record; refused with 1 where it is none.
+// The trial of a 152-byte record, none where it has no fit; refused with 1 where it is no record.
 #[tactic(auto, using(crate::proofs::Formed::trial_read, crate::proofs::Formed::other_length), unfolding(fields::specs::Fields::byte_at))]
-pub fn read_trial(bytes: &[u8]) -> Result<Recorded, Refusal>
+pub fn read_trial(bytes: &[u8]) -> Result<Option<Fitted>, Refusal>
     ensures { told view_recorded result ≡ trial_answer bytes.now }
 {
     if bytes.len() != 152 || !fields::zero_bytes(bytes, 2, 8) {
@@ -82,12 +77,9 @@ pub fn read_trial(bytes: &[u8]) -> Result<Recorded, Refusal>
     if !parts_formed(fit_mark, refit_mark, &fit, &refit) {
         return Err(Refusal::Record);
     }
-    Ok(match (fit_mark, refit_mark) {
-        (_, 1) => Recorded::Refit(Refitted {
-            fit: Model::from(fit),
-            refit: Model::from(refit),
-        }),
-        (1, _) => Recorded::Fit(Model::from(fit)),
-        _ => Recorded::Empty,
-    })
+    let fitted = Fitted {
+        fit: Model::from(fit),
+        refit: (refit_mark == 1).then_some(Model::from(refit)),
+    };
+    Ok((fit_mark == 1).then_some(fitted))
 }
