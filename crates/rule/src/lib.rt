@@ -53,6 +53,6 @@ pub fn number<T: Copy>(answer: Result<T, Refusal>) -> u32
 {
     match answer {
         Ok(_) => 0,
-        Err(refusal) => refusal as u32,
+        Err(refusal) => u32::from(refusal),
     }
 }
