@@ -1,15 +1,16 @@
 -- What a reader finds at a place: a field of any width, and what the library makes of the parts of four bytes and of eight. Assumes nothing.
 use mathlib.Core.Path.{◌≡◌, refl, sym, ap, ◌∙◌}
-use mathlib.Core.List.{List, [], ◌∷◌}
-use Prim.Native.Nat.{ℕ, zero, suc, ◌*◌, ◌/◌, ◌≤◌, ◌<◌}
+use mathlib.Core.Bool.{true}
+use mathlib.Core.List.{List, [], ◌∷◌, ◌++◌}
+use Prim.Native.Nat.{ℕ, zero, suc, ◌+◌, ◌*◌, ◌/◌, ◌≤◌, ◌<◌}
 use native.Mathlib.Omega.{arith}
-use lib.ListN.{length, get_or, take, drop, length-drop, length-map, get_or-map}
+use lib.ListN.{length, get_or, take, drop, set, length-drop, length-map, get_or-map}
 use lib.Seq.{length-take-le}
-use lib.Ieee.{Float, binary64, of_bits}
+use lib.Ieee.{Float, nan, inf, fin, binary64, is_nan, of_bits, to_bits}
 use Rattle.std.specs.Int.{w32, w64, from_le_bytes}
 use Rattle.std.specs.Simd.{first_chunks}
-use Rattle.rule.specs.Lists.{first_parts, parts_of}
-use Rattle.rule.proofs.Lists.{past_end, place_read, parts_count, part_at, places_at, one_by_one}
+use Rattle.rule.specs.Lists.{first_parts, parts_of, for_each, filled}
+use Rattle.rule.proofs.Lists.{past_end, place_read, parts_count, part_at, places_at, one_by_one, alone, stored_no_room, stored_more, stored_all}
 use Rattle.fields.specs.Fields.{little_endian, fields_of, words_of, longs_of, doubles_of, word_at, long_at, double_at}
 
 -- ---- fields of w bytes
@@ -95,7 +96,37 @@ pub no_long : (l : List ℕ) (i : ℕ) → length l / 8 ≤ i → 0 ≡ long_at 
 unfolding long_at longs_of
 no_long l i h = no_field 8 l i h
 
+-- ---- all words, stored from the front of a lent list
+
+module _ (l entry : List ℕ) where
+  -- the lent list after the first i words
+  unfoldable pub words_after : ℕ → List ℕ
+  words_after i = for_each alone (take i (words_of l)) ++ drop (1 * i) entry
+
+  pub words_none : words_after 0 ≡ entry
+  unfolding words_after for_each
+  words_none = refl
+
+  pub words_no_room : length entry < length l / 4 → entry ≡ filled (words_of l) entry
+  words_no_room h = stored_no_room (words_of l) entry (words_count l) h
+
+  module _ (room : length l / 4 ≤ length entry) where
+    pub words_more : (i : ℕ) → i < length l / 4 → words_after (i + 1) ≡ set (words_after i) i (word_at l i)
+    unfolding words_after word_at
+    words_more i h = sym (stored_more (words_of l) entry (words_count l) room 0 h refl (record { is = refl })).is
+
+    pub words_all : (i : ℕ) → i ≡ length l / 4 → words_after i ≡ filled (words_of l) entry
+    unfolding words_after
+    words_all i h = stored_all (words_of l) entry (words_count l) room (omega (arith, h)) (omega (arith, h)) (record { is = refl })
+
 -- ---- eight bytes as a double
+
+-- the pattern of each NaN
+pub nan_pattern : (x : Float) → true ≡ is_nan x → 0x7ff8_0000_0000_0000 ≡ to_bits binary64 x
+unfolding is_nan to_bits
+nan_pattern nan h = refl
+nan_pattern (inf s) h = cc
+nan_pattern (fin s m e) h = cc
 
 pub doubles_count : (l : List ℕ) → length (doubles_of l) ≡ length l / 8
 unfolding doubles_of longs_of

@@ -2,13 +2,13 @@
 use mathlib.Core.Path.{◌≡◌, refl, sym, ap, ap₂, ◌∙◌}
 use mathlib.Core.List.{List, [], ◌∷◌, ◌++◌}
 use Prim.Native.Nat.{ℕ, zero, suc, ◌+◌, ◌-◌, ◌*◌, ◌/◌, ◌%◌, ◌^◌, ◌≤◌, ◌<◌}
-use native.Mathlib.Nat.{zero-add, le_of_lt, le_trans, mul_assoc, mul-suc, mul-le-mul_left, mod-add-div, mul_comm, div-one, le-div_iff_mul-le, div-lt_iff_lt-mul, div-div-eq-div-mul, pow-zero, pow-suc, pow-succ', suc-add}
+use native.Mathlib.Nat.{zero-add, le_of_lt, le_trans, mul_assoc, mul-zero, mul-suc, mul-le-mul_left, mod-add-div, mul_comm, div-one, le-div_iff_mul-le, div-lt_iff_lt-mul, div-div-eq-div-mul, pow-zero, pow-suc, pow-succ', suc-add}
 use native.Mathlib.Omega.{arith}
 use borrow.Rule.Slice.PartMut.{mid_of, put_mid}
-use lib.ListN.{length, get_or, drop}
+use lib.ListN.{length, get_or, take, drop}
 use Rattle.std.specs.Int.{byte_at, bytes_low_first}
 use Rattle.rule.specs.Lists.{for_each, replaced, filled}
-use Rattle.rule.proofs.Lists.{Written, none, same, more, no_room, all-filled, replaced-length, replaced_twice, filled_is, filled-replaced, part_filled}
+use Rattle.rule.proofs.Lists.{Written, same, more, no_room, all-filled, replaced-length, replaced_twice, filled_is, filled-replaced, part_filled}
 use Rattle.fields.specs.Fields.{bytes_of}
 pub use Rattle.fields.specs.Wide.{bytes_wide, double_wide}
 
@@ -78,44 +78,38 @@ module _ {A : Type 0} (entry : List A) where
 
 -- ---- each element's bytes, w places each
 
-module _ {A : Type 0} (write : A → List ℕ) (w : ℕ) (wide : (a : A) → length (write a) ≡ w) (l : List A) (entry : List ℕ) where
-  -- the first i elements are written
-  abbrev pub Put : ℕ → List ℕ → Type 0
-  Put i s = Written write w wide l entry i s
+module _ {A : Type 0} (write : A → List ℕ) (w : ℕ) (l : List A) (entry : List ℕ) where
+  -- the lent list after the first i elements
+  unfoldable pub put_after : ℕ → List ℕ
+  put_after i = for_each write (take i l) ++ drop (w * i) entry
 
-  pub put_none : Put 0 entry
-  put_none = none write w wide l entry
+  pub put_none : put_after 0 ≡ entry
+  unfolding put_after for_each
+  put_none = rw (mul-zero w)
 
-  pub put_no_room : length entry < w * length l → entry ≡ filled (for_each write l) entry
-  put_no_room h = no_room write w wide l entry refl h
+  module _ (wide : (a : A) → length (write a) ≡ w) (p : 0 < w) where
+    pub put_no_room : length entry / w < length l → entry ≡ filled (for_each write l) entry
+    put_no_room h = no_room write w wide l entry refl (rw (mul_comm w (length l)) ((div-lt_iff_lt-mul p).0 h))
 
-  module _ (room : w * length l ≤ length entry) {i : ℕ} {s : List ℕ} (k : Put i s) where
-    pub put_same : i ≤ length l → length s ≡ length entry
-    put_same h = same write w wide l entry refl h room k
+    module _ (tested : length l ≤ length entry / w) where
+      room : w * length l ≤ length entry
+      room = rw (mul_comm w (length l)) ((le-div_iff_mul-le p).0 tested)
 
-    pub put_inside : i < length l → w * i + w ≤ length s
-    put_inside h =
-        let e : w * i + w ≡ w * suc i = sym (mul-suc w i) in
-        let g : w * suc i ≤ w * length l = mul-le-mul_left w h in
-        let f = put_same (le_of_lt h) in
-        rw (e, f) (le_trans g room)
+      pub put_more : {i : ℕ} {a : A} {s part : List ℕ} → i < length l → a ≡ get_or l i a → s ≡ put_after i
+          → part ≡ filled (write a) (mid_of (w * i) (w * i + w - w * i) s) → put_mid (w * i) (w * i + w - w * i) s part ≡ put_after (i + 1)
+      unfolding put_after
+      put_more {i} {a} {s} {part} h is e f =
+          let k : Written write w wide l entry i s = record { is = e } in
+          let inside : w * i + w ≤ length s =
+          let g : w * i + w ≡ w * suc i = sym (mul-suc w i) in
+          let m : w * suc i ≤ w * length l = mul-le-mul_left w h in
+          rw (g, same write w wide l entry refl (le_of_lt h) room k) (le_trans m room)
+          in
+          (more write w wide l entry refl a h k is (part_filled (w * i) (w * i + w) (write a) s (ap (λ j. w * i + j) (wide a)) inside f)).is
 
-    -- v is the width as the code has it
-    pub put_more : {v : ℕ} → v ≡ w → {a : A} {part : List ℕ} → i < length l → a ≡ get_or l i a
-        → part ≡ filled (write a) (mid_of (v * i) (v * i + v - v * i) s) → Put (i + 1) (put_mid (v * i) (v * i + v - v * i) s part)
-    put_more {v} e {a} h is f =
-        more write w wide l entry refl a h k is
-        (rw e (part_filled (w * i) (w * i + w) (write a) s (ap (λ j. w * i + j) (wide a)) (put_inside h) (rw e at f)))
-
-    pub put_all : i ≤ length l → length l ≤ i → s ≡ filled (for_each write l) entry
-    put_all h g = all-filled write w wide l entry refl h g room k
-
--- the test of the room, by a division; v is the width as the code has it
-pub room_tested : (w n room : ℕ) {v : ℕ} → v ≡ w → 0 < w → n ≤ room / v → w * n ≤ room
-room_tested w n room e p h = rw (mul_comm w n) ((le-div_iff_mul-le p).0 (rw e at h))
-
-pub no_room_tested : (w n room : ℕ) {v : ℕ} → v ≡ w → 0 < w → room / v < n → room < w * n
-no_room_tested w n room e p h = rw (mul_comm w n) ((div-lt_iff_lt-mul p).0 (rw e at h))
+      pub put_all : {i : ℕ} → i ≤ length l → length l ≤ i → put_after i ≡ filled (for_each write l) entry
+      unfolding put_after
+      put_all h g = all-filled write w wide l entry refl h g room (record { is = refl })
 
 -- bytes copied to the front
 pub front_filled : (xs l : List ℕ) {copy : List ℕ} → copy ≡ xs → length xs ≤ length l → copy ++ drop (length xs) l ≡ filled xs l

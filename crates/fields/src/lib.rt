@@ -58,6 +58,7 @@ pub fn double_of(bits: u64) -> f64
 }
 
 // The bit pattern of a double; a NaN's is the quiet one without a sign.
+#[tactic(auto, using(crate::proofs::Reading::nan_pattern))]
 pub fn bits_of(x: f64) -> u64
     ensures { result ≡ to_bits binary64 x }
 {
@@ -85,7 +86,7 @@ pub fn zero_bytes(bytes: &[u8], from: usize, to: usize) -> bool
 }
 
 // Reads all four-byte fields into `words`, from its front, if it has room for them.
-#[tactic(auto, using(rule::proofs::Lists::stored_no_room, rule::proofs::Lists::stored_all, crate::proofs::Reading::words_count))]
+#[tactic(auto, using(crate::proofs::Reading::words_no_room, crate::proofs::Reading::words_none, crate::proofs::Reading::words_more, crate::proofs::Reading::words_all))]
 pub fn read_words(bytes: &[u8], words: &mut [u32])
     ensures { words.new ≡ filled (words_of bytes.now) words.old }
 {
@@ -185,6 +186,7 @@ pub fn put<T: Field>(part: &mut [u8], x: T)
 }
 
 // Writes each number's bytes into `bytes`, from its front, if it has room for them.
+#[tactic(auto, using(crate::proofs::Writing::put_none, crate::proofs::Writing::put_no_room, crate::proofs::Writing::put_more, crate::proofs::Writing::put_all))]
 pub fn write_all<T: Field>(items: &[T], bytes: &mut [u8])
     ensures { bytes.new ≡ filled (for_each T.bytes items.now) bytes.old }
 {

@@ -1,6 +1,7 @@
 -- `fields::write_all` meets its contract. Assumes nothing.
-use Rattle.fields.proofs.Writing.{Put}
+use mathlib.Core.Path.{◌≡◌}
+use Rattle.fields.proofs.Writing.{put_after}
 use Rattle.fields.proofs.write_all.Given as goal
 
 abbrev pub invariant-loop-i : goal.invariant-loop-i
-invariant-loop-i g l = Put g.T.Field.bytes g.T.Field.WIDTH g.met.T.Field.wide l.items l.initial.bytes l.i l.bytes
+invariant-loop-i g l = l.bytes ≡ put_after g.T.Field.bytes g.T.Field.WIDTH l.items l.initial.bytes l.i
