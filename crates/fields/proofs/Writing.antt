@@ -111,6 +111,6 @@ module _ {A : Type 0} (write : A → List ℕ) (w : ℕ) (l : List A) (entry : L
       unfolding put_after
       put_all h g = all-filled write w wide l entry refl h g room (record { is = refl })
 
--- bytes copied to the front
-pub front_filled : (xs l : List ℕ) {copy : List ℕ} → copy ≡ xs → length xs ≤ length l → copy ++ drop (length xs) l ≡ filled xs l
+-- a list copied to the front
+pub front_filled : {A : Type 0} (xs l : List A) {copy : List A} → copy ≡ xs → length xs ≤ length l → copy ++ drop (length xs) l ≡ filled xs l
 front_filled xs l e h = ap (λ c. c ++ drop (length xs) l) e ∙ sym (filled_is xs l h)

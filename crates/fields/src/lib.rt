@@ -3,7 +3,7 @@
 #![tactic(auto)]
 
 ghost use Rattle.std.specs.Prelude.{◌≡◌, ◌<◌, min, ℕ, List, length};
-ghost use Rattle.std.proofs.Common.{rules};
+ghost use Rattle.std.proofs.Common.{zero-lt-suc};
 ghost use Rattle.std.specs.Float.{binary64};
 ghost use Rattle.std.specs.Float.Ieee.{of_bits, to_bits};
 ghost use Rattle.rule.specs.Lists.{filled, for_each};
@@ -99,14 +99,14 @@ pub fn read_words(bytes: &[u8], words: &mut [u32])
     }
 }
 
-// Writes bytes to the front of `part`, if it has room for them.
+// Lays a list over the front of `part`, if it has room for it.
 #[tactic(auto, using(rule::proofs::Lists::filled_not, crate::proofs::Writing::front_filled))]
-fn lay(part: &mut [u8], bytes: &[u8])
-    ensures { part.new ≡ filled bytes.now part.old }
+pub fn lay<T: Copy>(part: &mut [T], items: &[T])
+    ensures { part.new ≡ filled items.now part.old }
 {
-    let n = bytes.len();
+    let n = items.len();
     if n <= part.len() {
-        part[..n].copy_from_slice(bytes);
+        part[..n].copy_from_slice(items);
     }
 }
 
@@ -127,6 +127,7 @@ pub trait Field: Copy {
     ghost wide: { (x : Self) → length (bytes x) ≡ WIDTH };
 }
 
+// This and the impl for u64 stay two: each names its own width and its own method of std.
 impl Field for u32 {
     const WIDTH: usize = 4;
 
@@ -139,7 +140,7 @@ impl Field for u32 {
         lay(part, &u32::to_le_bytes(self));
     }
 
-    ghost some = { Prim.search rules };
+    ghost some = { zero-lt-suc 3 };
 
     ghost wide = { bytes_wide 4 };
 }
@@ -156,7 +157,7 @@ impl Field for u64 {
         lay(part, &u64::to_le_bytes(self));
     }
 
-    ghost some = { Prim.search rules };
+    ghost some = { zero-lt-suc 7 };
 
     ghost wide = { bytes_wide 8 };
 }
@@ -173,16 +174,9 @@ impl Field for f64 {
         bits_of(self).put_to(part);
     }
 
-    ghost some = { Prim.search rules };
+    ghost some = { zero-lt-suc 7 };
 
     ghost wide = { double_wide };
-}
-
-// Writes a number's bytes to the front of `part`, if it has room for them.
-pub fn put<T: Field>(part: &mut [u8], x: T)
-    ensures { part.new ≡ filled (T.bytes x) part.old }
-{
-    x.put_to(part);
 }
 
 // Writes each number's bytes into `bytes`, from its front, if it has room for them.
@@ -196,6 +190,6 @@ pub fn write_all<T: Field>(items: &[T], bytes: &mut [u8])
     }
     for i in 0..items.len() {
         let a = w * i;
-        put(&mut bytes[a..a + w], items[i]);
+        items[i].put_to(&mut bytes[a..a + w]);
     }
 }

@@ -30,7 +30,7 @@ fn put_opened(opened: Result<State, Refusal>, state: &mut [u64]) -> u32
     ensures state_after { state.new ≡ opened_after (told view_state opened) state.old }
 {
     if let Ok(s) = opened {
-        writing::put(&writing::state_words(s), state);
+        fields::lay(state, &writing::state_words(s));
     }
     if state.len() < 25 {
         return NO_WORDS;
@@ -78,7 +78,7 @@ pub extern "C" fn probe_new_options(thresh: f64, state: &mut [u64]) -> u32
     ensures value { result ≡ made_number state.old }
     ensures state_after { state.new ≡ filled (made_words (usual_options thresh)) state.old }
 {
-    writing::put(&writing::made_words(RansacOptions::new(thresh)), state);
+    fields::lay(state, &writing::made_words(RansacOptions::new(thresh)));
     if state.len() < 6 { NO_WORDS } else { 0 }
 }
 
@@ -104,7 +104,7 @@ pub extern "C" fn probe_trial(
         stops,
     };
     let tried = pick::trial(reading::state_in(state), call);
-    writing::put(&writing::tried_words(tried), out);
+    fields::lay(out, &writing::tried_words(tried));
     if out.len() < 29 { NO_WORDS } else { 0 }
 }
 

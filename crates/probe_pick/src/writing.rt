@@ -1,23 +1,11 @@
-// A state's 25 words, and a trial's 29, put into a lent list.
+// A state's 25 words, and a trial's 29.
 ghost use Rattle.std.specs.Prelude.{◌≡◌};
 ghost use Rattle.book.specs.Book.{held};
-ghost use Rattle.rule.specs.Lists.{filled};
 ghost use Rattle.pick.specs.Run.{view_winner, view_best, view_state, view_outcome, view_tried};
 ghost use Rattle.probe_pick.specs.Words.{made_words, count_words, winner_words, run_words, outcome_words, tried_words};
 
 use pick::{Outcome, State, Tried, Winner};
 use records::RansacOptions;
-
-// Puts words into the front of `part`, if it has room for them.
-#[tactic(auto, unfolding(rule::specs::Lists::filled))]
-pub(crate) fn put(words: &[u64], part: &mut [u64])
-    ensures { part.new ≡ filled words.now part.old }
-{
-    let n = words.len();
-    if n <= part.len() {
-        part[..n].copy_from_slice(words);
-    }
-}
 
 // The words of options by themselves: those at a state's front, and the ratio's.
 pub(crate) fn made_words(o: RansacOptions) -> [u64; 6]

@@ -13,6 +13,7 @@ ghost use Rattle.records.specs.Marks.{numbers_in};
 ghost use Rattle.pick.specs.Run.{view_winner};
 ghost use Rattle.salghemu.specs.Whole.{later_tests, stop_of, records_in, view_ran, winner_bytes, index_bytes, laid_over, later_answer, options_answer, run_answer, Gave};
 
+use fields::Field;
 use judge::Call;
 use pick::{State, Winner};
 use records::RansacOptions;
@@ -51,9 +52,9 @@ fn put_winner(part: &mut [u8], w: Winner)
     requires { length part.old ≡ 88 }
     ensures { part.new ≡ winner_bytes (view_winner w) }
 {
-    fields::put(&mut part[0..4], w.count);
-    fields::put(&mut part[4..8], w.number);
-    fields::put(&mut part[8..16], w.rms);
+    w.count.put_to(&mut part[0..4]);
+    w.number.put_to(&mut part[4..8]);
+    w.rms.put_to(&mut part[8..16]);
     fields::write_all(&w.model.numbers(), &mut part[16..88]);
 }
 

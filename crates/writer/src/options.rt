@@ -4,6 +4,7 @@ ghost use Rattle.rule.specs.Answer.{refusal_in};
 ghost use Rattle.writer.specs.Format.{writer_answer, written};
 ghost use Rattle.writer.specs.Formats.{options_format};
 
+use fields::Field;
 use records::RansacOptions;
 use rule::Refusal;
 
@@ -37,6 +38,6 @@ pub fn write_options(
     fields::write_all(&[max_iters, min_inliers], &mut out[16..24]);
     // The mark, and seven zero bytes.
     out[24..32].copy_from_slice(&[refit_mark, 0, 0, 0, 0, 0, 0, 0]);
-    fields::put(&mut out[32..40], ratio);
+    ratio.put_to(&mut out[32..40]);
     Ok(())
 }

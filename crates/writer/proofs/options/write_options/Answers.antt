@@ -18,5 +18,5 @@ returns-clause-out_after c =
       ratio = c.args.ratio;
     }
     in
-    options_laid n c.args.out.now (omega arith) (omega arith) c.write_all.ensures c.write_all-2.ensures c.copy_from_slice.ensures.after c.put.ensures
+    options_laid n c.args.out.now (omega arith) (omega arith) c.write_all.ensures c.write_all-2.ensures c.copy_from_slice.ensures.after c.put_to.ensures
     ∙ sym (options_left n c.args.out.now (search rules) (search rules) (search rules) c.in_ok-marked.ensures c.in_ok-validate.ensures (omega arith))
