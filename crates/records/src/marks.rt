@@ -14,25 +14,20 @@ pub fn read_mark(bytes: &[u8], i: usize) -> Mark
 {
     if i < bytes.len() / 32 {
         let p = 4 * i;
-        Mark {
-            x: fields::double_at(bytes, p),
-            y: fields::double_at(bytes, p + 1),
-            u: fields::double_at(bytes, p + 2),
-            v: fields::double_at(bytes, p + 3),
-        }
+        Mark::from([
+            fields::double_at(bytes, p),
+            fields::double_at(bytes, p + 1),
+            fields::double_at(bytes, p + 2),
+            fields::double_at(bytes, p + 3),
+        ])
     } else {
-        Mark {
-            x: 0.0,
-            y: 0.0,
-            u: 0.0,
-            v: 0.0,
-        }
+        Mark::from([0.0; 4])
     }
 }
 
 // Reads all marks of a file into `numbers`, four numbers a mark, from its front, if it has room for
 // them.
-#[tactic(auto, using(crate::proofs::Reading::numbers_no_room, crate::proofs::Reading::numbers_none, crate::proofs::Reading::numbers_more, crate::proofs::Reading::numbers_all), unfolding(sheet::specs::Marks::mark_numbers))]
+#[tactic(auto, using(crate::proofs::Reading::numbers_no_room, crate::proofs::Reading::numbers_none, crate::proofs::Reading::numbers_more, crate::proofs::Reading::numbers_all))]
 pub fn read_marks(bytes: &[u8], numbers: &mut [f64])
     ensures { numbers.new ≡ filled (numbers_in bytes.now) numbers.old }
 {
@@ -42,6 +37,6 @@ pub fn read_marks(bytes: &[u8], numbers: &mut [f64])
     }
     for i in 0..n {
         let m = read_mark(bytes, i);
-        numbers[4 * i..4 * i + 4].copy_from_slice(&[m.x, m.y, m.u, m.v]);
+        numbers[4 * i..4 * i + 4].copy_from_slice(&m.numbers());
     }
 }

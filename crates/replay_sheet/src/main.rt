@@ -99,12 +99,7 @@ fn model(record: &[u8]) -> Model {
 }
 
 fn mark(record: &[u8]) -> Mark {
-    Mark {
-        x: fields::double_at(record, 14),
-        y: fields::double_at(record, 15),
-        u: fields::double_at(record, 16),
-        v: fields::double_at(record, 17),
-    }
+    Mark::from(array::from_fn(|i| fields::double_at(record, 14 + i)))
 }
 
 // Word 116 is the distance; where the mark is beyond it is 0, and word 117 is 1.

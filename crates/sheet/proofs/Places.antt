@@ -48,9 +48,9 @@ no_mark_lem l i h = past_end (marks_of l) i no_mark (rw (count l) h)
 
 -- ---- the points of a side
 
-pub points-count : (side : Side) (l : List Float) → length (points side l) ≡ length (marks_of l)
+pub points_count : (side : Side) (l : List Float) → length (points side l) ≡ length (marks_of l)
 unfolding points
-points-count side l = length-map (marks_of l) (point_of side)
+points_count side l = length-map (marks_of l) (point_of side)
 
 abbrev pub no_point : Side → Point
 no_point side = point_of side no_mark

@@ -25,6 +25,10 @@ marks_of (x ∷ y ∷ u ∷ v ∷ rest) = record { x = x; y = y; u = u; v = v } 
 unfoldable pub mark_numbers : Mark → List Float
 mark_numbers m = m.x ∷ m.y ∷ m.u ∷ m.v ∷ []
 
+-- the mark of four numbers
+abbrev pub mark_of : List Float → Mark
+mark_of l = record { x = get_or l 0 zero'; y = get_or l 1 zero'; u = get_or l 2 zero'; v = get_or l 3 zero' }
+
 abbrev pub no_mark : Mark
 no_mark = record { x = zero'; y = zero'; u = zero'; v = zero' }
 

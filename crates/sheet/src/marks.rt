@@ -4,7 +4,7 @@ ghost use Rattle.rule.specs.Answer.{refusal_in};
 ghost use Rattle.rule.specs.Order.{first_failed};
 ghost use Rattle.numbers.specs.Constants.{farthest};
 ghost use Rattle.numbers.specs.Finite.{within};
-ghost use Rattle.sheet.specs.Marks.{marks_of, mark_at, point_of, point_at, points, squared_apart, all_within, shape_tests, marks_tests};
+ghost use Rattle.sheet.specs.Marks.{marks_of, mark_of, mark_numbers, mark_at, point_of, point_at, points, squared_apart, all_within, shape_tests, marks_tests};
 
 use rule::Refusal;
 
@@ -16,6 +16,24 @@ pub struct Mark {
     pub y: f64,
     pub u: f64,
     pub v: f64,
+}
+
+impl From<[f64; 4]> for Mark {
+    ghost from_gives = { λ numbers m. m ≡ mark_of numbers };
+
+    fn from(numbers: [f64; 4]) -> Mark {
+        let [x, y, u, v] = numbers;
+        Mark { x, y, u, v }
+    }
+}
+
+impl Mark {
+    #[tactic(auto, unfolding(crate::specs::Marks::mark_numbers))]
+    pub fn numbers(self) -> [f64; 4]
+        ensures { result ≡ mark_numbers self }
+    {
+        [self.x, self.y, self.u, self.v]
+    }
 }
 
 #[derive(Clone, Copy)]
@@ -40,24 +58,15 @@ pub fn mark_count(marks: &[f64]) -> usize
 }
 
 // The mark at place `i`; all zeros where there is none.
+#[tactic(auto, using(crate::proofs::Places::read, crate::proofs::Places::no_mark_lem))]
 pub fn mark_at(marks: &[f64], i: usize) -> Mark
     ensures { result ≡ mark_at marks.now i }
 {
     if i < marks.len() / 4 {
         let p = 4 * i;
-        Mark {
-            x: marks[p],
-            y: marks[p + 1],
-            u: marks[p + 2],
-            v: marks[p + 3],
-        }
+        Mark::from([marks[p], marks[p + 1], marks[p + 2], marks[p + 3]])
     } else {
-        Mark {
-            x: 0.0,
-            y: 0.0,
-            u: 0.0,
-            v: 0.0,
-        }
+        Mark::from([0.0; 4])
     }
 }
 
@@ -85,6 +94,7 @@ pub struct Points<'a> {
 }
 
 impl<'a> Points<'a> {
+    #[tactic(auto, using(crate::proofs::Places::points_count))]
     pub fn len(self) -> usize
         ensures { result ≡ length (points self.entry.side self.entry.marks.now) }
     {

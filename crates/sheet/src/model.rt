@@ -104,12 +104,10 @@ pub fn model_finite(h: Model) -> bool
     numbers::ensure_finite(&h.numbers())
 }
 
-#[tactic(auto, unfolding(crate::specs::Marks::mark_numbers))]
 fn mark_in_range(m: Mark) -> bool
     ensures { result ≡ all_within farthest (mark_numbers m) }
 {
-    let numbers = [m.x, m.y, m.u, m.v];
-    all_in_range(&numbers)
+    all_in_range(&m.numbers())
 }
 
 // The distance of a mark under a candidate by a row ratio, none where the mark is beyond; refused with 1
