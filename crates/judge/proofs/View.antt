@@ -59,7 +59,7 @@ module _ {S : Type 0} (view : S → Score.Standing Model) (back : Score.Standing
 
 pub verdict_one : (x y : Result (Judgement Standing) Refusal) → view_verdict x ≡ view_verdict y → beyond_in x ≡ beyond_in y → x ≡ y
 unfolding standing_of
-verdict_one = answer_one standing_of (λ s. record { model = s.model; count = s.count; rms = s.rms; stop = s.stop }) (λ s. refl)
+verdict_one = answer_one standing_of (λ s. record { support = record { model = s.model; count = s.count; stop = s.stop }; rms = s.rms }) (λ s. refl)
 
 pub finding_one : (rms : Model → Float) (x y : Result (Judgement Support) Refusal) → view_finding rms x ≡ view_finding rms y → beyond_in x ≡ beyond_in y → x ≡ y
 finding_one rms = answer_one (supported rms) (λ s. record { model = s.model; count = s.count; stop = s.stop }) (λ s. refl)

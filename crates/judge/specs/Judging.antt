@@ -96,8 +96,12 @@ abbrev pub beyond_in : {S : Type 0} → Result (CodeJudgement S) Refusal → ℕ
 beyond_in (Ok j) = j.beyond
 beyond_in (Err e) = 0
 
+-- what a support stands for, with a root mean square
+abbrev pub with_rms : Float → Support → Score.Standing Model
+with_rms rms s = record { model = s.model; count = s.count; rms = rms; stop = s.stop }
+
 unfoldable pub standing_of : Standing → Score.Standing Model
-standing_of s = record { model = s.model; count = s.count; rms = s.rms; stop = s.stop }
+standing_of s = with_rms s.rms s.support
 
 abbrev pub view_verdict : Result (CodeJudgement Standing) Refusal → Judged Model
 view_verdict r = answer_as standing_of r
@@ -110,14 +114,14 @@ rms_under o l m = rms_in o.thresh (distances_of o.ratio l m)
 
 -- A support leaves the root mean square out: it is that of the model that stands.
 abbrev pub supported : (Model → Float) → Support → Score.Standing Model
-supported rms s = record { model = s.model; count = s.count; rms = rms s.model; stop = s.stop }
+supported rms s = with_rms (rms s.model) s
 
 abbrev pub view_finding : (Model → Float) → Result (CodeJudgement Support) Refusal → Judged Model
 view_finding rms r = answer_as (supported rms) r
 
 -- Where the distances' squares are known it can be worked out.
 unfoldable pub support_with : Float → (squares : List Float) → Support → Score.Standing Model
-support_with thresh squares s = record { model = s.model; count = s.count; rms = rms_of s.count (squares_in thresh (map root_of squares)); stop = s.stop }
+support_with thresh squares s = with_rms (rms_of s.count (squares_in thresh (map root_of squares))) s
 
 -- The lent list then has the squares of the model that stands at its front, or of the fit where that has too few marks.
 unfoldable pub squares_after : RansacOptions → (marks : List Float) → (stops : List ℕ) → Trial Model → List Float → List Float

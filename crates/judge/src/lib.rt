@@ -27,21 +27,19 @@ pub struct Call<'a> {
     pub stops: &'a [u32],
 }
 
-// The model that stands, its own count and root mean square, and the stop entry of the count.
-#[derive(Clone, Copy)]
-pub struct Standing {
-    pub model: Model,
-    pub count: u32,
-    pub rms: f64,
-    pub stop: u32,
-}
-
-// The same without the root mean square, which takes roots and isn't always asked for.
+// The model that stands, its own count, and the stop entry of the count.
 #[derive(Clone, Copy)]
 pub struct Support {
     pub model: Model,
     pub count: u32,
     pub stop: u32,
+}
+
+// The same with its root mean square, which takes roots and isn't always asked for.
+#[derive(Clone, Copy)]
+pub struct Standing {
+    pub support: Support,
+    pub rms: f64,
 }
 
 // No fit, too few marks and how many, or scored.
@@ -91,10 +89,8 @@ impl Support {
         ensures { standing_of result ≡ support_with thresh squares.now self }
     {
         Standing {
-            model: self.model,
-            count: self.count,
+            support: self,
             rms: score::rms(thresh, squares, self.count),
-            stop: self.stop,
         }
     }
 }

@@ -16,7 +16,7 @@ use rule::Refusal;
 fn wins(s: Standing, best: Option<Winner>) -> bool
     ensures { result ≡ beats (standing_of s) (view_best best) }
 {
-    best.is_none_or(|w| booking::is_better_model(s.count, s.rms, w.count, w.rms))
+    best.is_none_or(|w| booking::is_better_model(s.support.count, s.rms, w.count, w.rms))
 }
 
 impl BeforeEnd {
@@ -26,22 +26,23 @@ impl BeforeEnd {
         ensures { view_tried result ≡ answer_of (booked self.state (scored (standing_of s))) beyond }
     {
         let best = self.state.winner;
+        let t = s.support;
         if !wins(s, best) {
             return Tried {
-                state: self.scored(best, s.stop),
-                outcome: Outcome::Held(s.count, s.rms),
+                state: self.scored(best, t.stop),
+                outcome: Outcome::Held(t.count, s.rms),
                 beyond,
             };
         }
         let winner = Winner {
-            model: s.model,
-            count: s.count,
+            model: t.model,
+            count: t.count,
             rms: s.rms,
             number: self.state.counts.read + 1,
         };
         Tried {
-            state: self.scored(Some(winner), s.stop),
-            outcome: Outcome::Won(s.count, s.rms),
+            state: self.scored(Some(winner), t.stop),
+            outcome: Outcome::Won(t.count, s.rms),
             beyond,
         }
     }
