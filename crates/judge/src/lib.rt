@@ -59,19 +59,14 @@ pub struct Judgement<S> {
 
 impl<'a> Call<'a> {
     // The tests that take no walk over the marks, in order: refused with 5, 7 or 8.
-    #[tactic(auto, using(sheet::proofs::Places::count), unfolding(rule::specs::Order::first_failed, sheet::specs::Marks::shape, sheet::specs::Marks::few, crate::specs::Judging::tested_marks, crate::specs::Judging::of_run, crate::specs::Judging::entries))]
+    #[tactic(auto, using(sheet::proofs::Places::count), unfolding(rule::specs::Order::first_failed, sheet::specs::Marks::shape, sheet::specs::Marks::shape_tests, sheet::specs::Marks::few, crate::specs::Judging::tested_marks, crate::specs::Judging::of_run, crate::specs::Judging::entries))]
     fn check(self, n: usize) -> Result<(), Refusal>
         ensures { refusal_in result ≡ first_failed (tested_marks n self.entry.marks.now self.entry.stops.now) }
     {
         if sheet::mark_count(self.marks) != n {
             return Err(Refusal::Shape);
         }
-        if self.marks.len() % 4 != 0 {
-            return Err(Refusal::Shape);
-        }
-        if 8000 < self.marks.len() {
-            return Err(Refusal::Shape);
-        }
+        sheet::check_shape(self.marks)?;
         if n < 4 {
             return Err(Refusal::Few);
         }
@@ -125,6 +120,7 @@ pub fn judge(o: RansacOptions, n: usize, call: Call) -> Result<Judgement<Standin
     ensures verdict_value { view_verdict result ≡ judge_tested o n (call_of call.entry) }
     ensures beyond_value { beyond_in result ≡ beyond_by (tested_tests n (call_of call.entry)) (call_of call.entry) }
 {
+    // no heap, so there is a place for each mark of the longest run
     let mut squares = [0.0; 2000];
     let found = count_support(o, n, call, &mut squares, true)?;
     let beyond = found.beyond;
@@ -138,7 +134,8 @@ pub fn judge(o: RansacOptions, n: usize, call: Call) -> Result<Judgement<Standin
 
 // Writes the places of the marks within the threshold under a model to the front of `indices`,
 // ascending, and answers how many; nothing where it has not a place for each mark, or there are over
-// 2,000. The squares of the model are then at the front of `squares`.
+// 2,000. The squares of the model are then at the front of `squares`. Where nothing is written it answers
+// 0, as where no mark is within, and it can't refuse: who calls it has tested the marks and the room.
 #[tactic(auto, using(crate::proofs::Measured::writes), unfolding(rule::specs::Lists::filled, score::specs::Places::index_count, score::specs::Places::indexed, score::specs::Places::cramped))]
 pub fn write_inliers(
     o: RansacOptions,

@@ -37,6 +37,7 @@ pub fn winner_indices(s: State, marks: &[f64], indices: &mut [u32]) -> Result<us
 {
     let winner = s.winner.ok_or(Refusal::NoWinner)?;
     check_order(s.n, marks, indices.len())?;
+    // no heap, so there is a place for each mark of the longest run
     let mut squares = [0.0; 2000];
     Ok(judge::write_inliers(s.options, winner.model, marks, &mut squares, indices))
 }
