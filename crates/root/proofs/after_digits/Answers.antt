@@ -1,10 +1,10 @@
--- `root::after_digits` meets its contract. The inner loop's invariant: the places that it has come to hold what they should after a digit, and the others before it. Assumes nothing.
-use mathlib.Core.Path.{◌∙◌}
-use native.Mathlib.Numerals.{add-one}
+-- `root::after_digits` meets its contract. Assumes nothing.
+use mathlib.Core.Path.{◌≡◌, ◌∙◌}
+use Prim.Native.Nat.{◌+◌, ◌*◌, ◌/◌}
 use native.Mathlib.Omega.{arith}
 use borrow.Author.Count.{below_more}
 use Rattle.std.proofs.lemmas.List.{length-set, get_or-set_same, get_or-set_other}
-use Rattle.root.proofs.Whole.{begun, holds_next, ready, unit_halved}
+use Rattle.root.proofs.Whole.{begun}
 use Rattle.root.proofs.after_digits.Goals as goal
 
 pub loop-k-preserved : goal.loop-k-preserved
@@ -13,21 +13,8 @@ loop-k-preserved g c = record {
   begun = below_more _ _ (λ j h d. rw (get_or-set_other c.loop-k.s c.loop-k.k j _ d (omega arith)) (c.loop-k.invariant.begun j h d)) (λ d. rw (get_or-set_same c.loop-k.s c.loop-k.k _ d (omega arith)) (begun _ (c.requires.0 _)));
 }
 
-pub next_digit-requires : goal.next_digit-requires
-next_digit-requires g c = ready _ _ _ _ _ (omega (arith, c.requires.0 c.loop-k-2.k)) (omega arith) (c.loop-k-2.invariant.held c.loop-k-2.k (omega arith) (omega arith) _)
+pub loop-turn-preserved : goal.loop-turn-preserved
+loop-turn-preserved g c = rw (let e : 6 * (c.loop-turn.turn + 1) ≡ 6 * c.loop-turn.turn + 6 = omega arith in e) c.six_digits-s.ensures
 
-pub loop-k-2-preserved : goal.loop-k-2-preserved
-loop-k-2-preserved g c = record {
-  early = c.loop-k-2.invariant.early;
-  long = length-set _ _ _ ∙ c.loop-k-2.invariant.long;
-  next = below_more _ _ (λ j h d. rw (get_or-set_other c.loop-k-2.s c.loop-k-2.k j _ d (omega arith)) (c.loop-k-2.invariant.next j h d))
-      (λ d. rw (get_or-set_same c.loop-k-2.s c.loop-k-2.k _ d (omega arith), add-one) (holds_next _ _ _ _ _ _ _ _ (omega arith) (c.loop-k-2.invariant.held _ (omega arith) (omega arith) _) c.next_digit.ensures));
-  held = λ j h l d. rw (get_or-set_other c.loop-k-2.s c.loop-k-2.k j _ d (omega arith)) (c.loop-k-2.invariant.held j (omega arith) l d);
-}
-
-pub loop-preserved : goal.loop-preserved
-loop-preserved g c = record {
-  long = c.loop-k-2.invariant.long;
-  halved = unit_halved _ _ (omega arith) c.loop.invariant.halved;
-  held = λ j h d. c.loop-k-2.invariant.next j (omega arith) d;
-}
+pub loop-more-init : goal.loop-more-init
+loop-more-init g c = rw (let e : c.args.count / 6 * 6 ≡ 6 * c.loop-turn.turn = omega arith in e) c.loop-turn.invariant
