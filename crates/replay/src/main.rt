@@ -5,9 +5,8 @@
 #![tactic(auto)]
 
 use numbers::Quadratic;
-use std::fs::File;
 use std::{array, io};
-use tally::Kind;
+use tally::{Answers, Kind};
 
 // Whether each leaf answers what a record says.
 
@@ -64,18 +63,24 @@ fn finite_agrees(record: &[u8]) -> bool {
     tested(record, |values| numbers::ensure_finite(values))
 }
 
-// Whether the leaf of a record's kind answers what the record says.
-fn agrees(kind: Kind, record: &[u8]) -> bool {
-    match kind {
-        Kind::First => root_agrees(record),
-        Kind::Second => quadratic_agrees(record),
-        Kind::Third => rank_agrees(record),
-        Kind::Fourth => finite_agrees(record),
+// The leaf of each kind of record.
+struct Leaves;
+
+impl Answers for Leaves {
+    // No more is said of an answer than the leaves' own contracts say.
+    ghost says = { λ kind bytes right. Unit {0} };
+
+    fn agrees(kind: Kind, record: &[u8]) -> bool {
+        match kind {
+            Kind::First => root_agrees(record),
+            Kind::Second => quadratic_agrees(record),
+            Kind::Third => rank_agrees(record),
+            Kind::Fourth => finite_agrees(record),
+        }
     }
 }
 
 fn main(rt: HostRuntime) -> io::Result<()> {
-    let mut file = File::open(&rt, "answers.bin")?;
-    let scores = tally::replay_all::<96, _, _>(&mut file, agrees);
-    scores.print(&rt, ["roots", "quadratics", "ranks", "finite lists"])
+    let names = ["roots", "quadratics", "ranks", "finite lists"];
+    tally::replay::<Leaves, _>(&rt, "answers.bin", &mut [0; 96], names)
 }

@@ -7,9 +7,8 @@
 ghost use Rattle.std.specs.Prelude.{◌<◌};
 
 use sheet::{Mark, Model, Points, Side};
-use std::fs::File;
 use std::{array, io};
-use tally::Kind;
+use tally::{Answers, Kind};
 
 // The input's numbers; word 2 says how many count.
 fn input(record: &[u8]) -> [f64; 20] {
@@ -116,18 +115,24 @@ fn distance_agrees(record: &[u8]) -> bool {
     }
 }
 
-// Whether the entry of a record's kind answers what the record says.
-fn agrees(kind: Kind, record: &[u8]) -> bool {
-    match kind {
-        Kind::First => normalising_agrees(record),
-        Kind::Second => collinear_agrees(record),
-        Kind::Third => rows_agree(record),
-        Kind::Fourth => distance_agrees(record),
+// The entry of each kind of record.
+struct Entries;
+
+impl Answers for Entries {
+    // No more is said of an answer than the entries' own contracts say.
+    ghost says = { λ kind bytes right. Unit {0} };
+
+    fn agrees(kind: Kind, record: &[u8]) -> bool {
+        match kind {
+            Kind::First => normalising_agrees(record),
+            Kind::Second => collinear_agrees(record),
+            Kind::Third => rows_agree(record),
+            Kind::Fourth => distance_agrees(record),
+        }
     }
 }
 
 fn main(rt: HostRuntime) -> io::Result<()> {
-    let mut file = File::open(&rt, "sheets.bin")?;
-    let scores = tally::replay_all::<1024, _, _>(&mut file, agrees);
-    scores.print(&rt, ["normalisings", "collinear", "rows", "distances"])
+    let names = ["normalisings", "collinear", "rows", "distances"];
+    tally::replay::<Entries, _>(&rt, "sheets.bin", &mut [0; 1024], names)
 }

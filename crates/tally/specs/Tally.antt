@@ -1,7 +1,5 @@
 -- Scores: how many answers of each kind agree, of how many.
 use Rattle.std.specs.Prelude.{◌≡◌, Bool, false, cond, List, [], ◌∷◌, ◌++◌, length, ℕ, ◌+◌, ◌-◌, ◌≤◌, ltb, eqb, slice_index_or, slice_set, Option, Some, None, Result, MatchResult}
-use Rattle.std.specs.Borrow.{Bor}
-use Rattle.std.specs.Fn.{Shared, FnReturns}
 use Rattle.std.specs.Io.KnownBytes.{Consumes}
 use Rattle.fields.specs.Fields.{long_at}
 use Rattle.tally.specs.declared.Kind.{Kind}
@@ -43,10 +41,6 @@ scores_after t None agrees = record { kinds = t.kinds; unknown = score_after t.u
 
 -- ---- a list of records, replayed
 
--- an answer of f to a record of a kind, by its bytes
-abbrev pub Says : {F : Type 0} → Shared F (Kind × (Bor (List ℕ) × Unit {0})) Bool → F → Kind → List ℕ → Bool → Type 0
-Says g f kind l b = (shown : Bor (List ℕ)) × (shown.now ≡ l) × FnReturns g f (kind, (shown, tt)) b
-
 -- the scores of bytes that are whole records of n bytes each
 module _ (n : ℕ) (Answers : Kind → List ℕ → Bool → Type 0) where
   pub data Scored : List ℕ → Scores → Type 0 where
@@ -55,5 +49,9 @@ module _ (n : ℕ) (Answers : Kind → List ℕ → Bool → Type 0) where
     unknown : {bytes : List ℕ} (l : List ℕ) {t : Scores} → Scored bytes t → length l ≡ n → kind_of (long_at l 0) ≡ None → Scored (bytes ++ l) (scores_after t None false)
 
   -- of what a reader gave: the rest is no whole record, and nothing where records are of no bytes
-  abbrev pub Replayed : Option (List ℕ) → Option (List ℕ) → Scores → Type 0
-  Replayed old new t = (bytes rest : List ℕ) × Consumes old new (bytes ++ rest) × (length rest ≤ n - 1) × Scored bytes t
+  pub record Replayed (old new : Option (List ℕ)) (t : Scores) : Type 0 where
+    pub bytes : List ℕ
+    pub rest : List ℕ
+    pub read : Consumes old new (bytes ++ rest)
+    pub left : length rest ≤ n - 1
+    pub scored : Scored bytes t

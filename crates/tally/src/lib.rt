@@ -2,13 +2,14 @@
 // original Rust's answers.
 #![tactic(auto)]
 
-ghost use Rattle.std.specs.Prelude.{◌≡◌, ◌<◌, ◌^◌, ◌++◌, List, ℕ, eqb, length, MatchResult, Some, None};
+ghost use Rattle.std.specs.Prelude.{◌≡◌, ◌++◌, Bool, List, ℕ, eqb, length, MatchResult, Some, None};
 ghost use Rattle.std.specs.Float.{binary64};
 ghost use Rattle.std.specs.Float.Ieee.{to_bits};
 ghost use Rattle.std.specs.Io.KnownBytes.{Consumes};
-ghost use Rattle.tally.specs.Tally.{one_more, score_after, no_scores, scores_after, Decodes, Replayed, Says};
+ghost use Rattle.tally.specs.Tally.{one_more, score_after, no_scores, scores_after, Decodes, Replayed};
 
 use std::error::Error;
+use std::fs::{File, Files};
 use std::io::Read;
 use std::{fmt, io};
 
@@ -132,27 +133,45 @@ pub fn same(x: f64, y: f64) -> bool
     fields::bits_of(x) == fields::bits_of(y)
 }
 
-// The scores of a list of records of N bytes, to its end, or up to a number of records that no list has.
-// A read that fails is its end. `agrees` says whether the answer that a record of a kind holds is right.
-pub fn replay_all<const N: usize, R: Read, F: Fn(Kind, &[u8]) -> bool>(
-    file: &mut R,
-    agrees: F,
-) -> Scores
-    requires small { N < 2 ^ 63 }
-    requires calls { F.IsAlwaysCallable agrees }
-    ensures { Replayed N (Says F.Fn agrees) (R.remaining file.old) (R.remaining file.new) result }
+// What a list is replayed against.
+pub trait Answers {
+    ghost use Rattle.tally.specs.declared.Kind.{Kind};
+
+    // What is known of an answer to a record of a kind, by its bytes.
+    ghost says: { Kind → List ℕ → Bool → Type 0 };
+
+    // Whether the answer that a record of a kind holds is right.
+    fn agrees(kind: Kind, bytes: &[u8]) -> bool
+        ensures { says kind bytes.now result };
+}
+
+// The scores of a list of records, each as long as the buffer, to its end, or up to a number of
+// records that no list has. A read that fails is its end.
+#[tactic(auto, using(crate::proofs::Records::whole_none, crate::proofs::Records::whole_rest, crate::proofs::Records::whole_known, crate::proofs::Records::whole_unknown, crate::proofs::Records::whole_all))]
+pub fn replay_all<A: Answers, R: Read>(file: &mut R, buffer: &mut [u8]) -> Scores
+    ensures { Replayed (length buffer.old) A.says (R.remaining file.old) (R.remaining file.new) result }
 {
     let mut scores = Scores::none();
     'records: for _ in 0..1000000u32 {
-        let mut record = [0u8; N];
-        if reading::read_full(file, &mut record) < N {
+        if reading::read_full(file, buffer) < buffer.len() {
             return scores;
         }
-        let word = fields::long_at(&record, 0);
+        let word = fields::long_at(buffer, 0);
         scores = match Kind::try_from(word) {
-            Ok(kind) => scores.after(Some(kind), agrees(kind, &record)),
+            Ok(kind) => scores.after(Some(kind), A::agrees(kind, buffer)),
             Err(_) => scores.after(None, false),
         };
     }
     scores
+}
+
+// A program's whole run: replays the file's records and prints their scores.
+pub fn replay<A: Answers, S: Files + Print>(
+    rt: &S,
+    path: &str,
+    buffer: &mut [u8],
+    names: [&str; 4],
+) -> io::Result<()> {
+    let mut file = File::open(rt, path)?;
+    replay_all::<A, _>(&mut file, buffer).print(rt, names)
 }

@@ -20,13 +20,13 @@ module _ (n : ℕ) (Answers : Kind → List ℕ → Bool → Type 0) where
   whole_none a e = record { bytes = []; read = Consumes-nil a; scored = subst (Scored n Answers []) (sym e) Scored.none }
 
   pub whole_all : {old new : Option (List ℕ)} {t : Scores} → Whole old new t → Replayed n Answers old new t
-  whole_all {old} {new} w = (w.bytes, [], subst (Consumes old new) (sym (append-nil w.bytes)) w.read, zero-le, w.scored)
+  whole_all {old} {new} w = record { bytes = w.bytes; rest = []; read = subst (Consumes old new) (sym (append-nil w.bytes)) w.read; left = zero-le; scored = w.scored }
+
+  -- what is no whole record is not counted
+  pub whole_rest : (l : List ℕ) (count : ℕ) {old mid new : Option (List ℕ)} {t : Scores} → Consumes mid new (take count l) → count < length l → length l ≡ n → Whole old mid t → Replayed n Answers old new t
+  whole_rest l count p few long w = record { bytes = w.bytes; rest = take count l; read = Consumes-trans _ _ _ _ _ w.read p; left = simp length-take (omega arith); scored = w.scored }
 
   module _ (old mid new : Option (List ℕ)) {t : Scores} (w : Whole old mid t) where
-    -- what is no whole record is not counted
-    pub whole_rest : (l : List ℕ) (count : ℕ) → Consumes mid new (take count l) → count < n → Replayed n Answers old new t
-    whole_rest l count p few = (w.bytes, take count l, Consumes-trans _ _ _ _ _ w.read p, simp length-take (omega arith), w.scored)
-
     -- one record more, l, which the buffer holds
     module _ (l : List ℕ) {count : ℕ} (p : Consumes mid new (take count l)) (bound : count ≤ length l) (long : length l ≡ n) (full : n ≤ count) {word : ℕ} (is : word ≡ long_at l 0) where
       all : Consumes mid new l
