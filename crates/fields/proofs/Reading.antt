@@ -42,8 +42,8 @@ unfolding first_parts
 chunks_parts w zero l = refl
 chunks_parts w (suc n) l = ap (λ rest. take w l ∷ rest) (chunks_parts w n (drop w l))
 
-module _ (w : ℕ) (l : List ℕ) (i : ℕ) {chunks : List (List ℕ)} (cut : chunks ≡ first_chunks w (length l / w) l) where
-  parts_are : chunks ≡ parts_of w l
+module _ (w : ℕ) (l : List ℕ) {chunks : List (List ℕ)} (cut : chunks ≡ first_chunks w (length l / w) l) where
+  pub parts_are : chunks ≡ parts_of w l
   unfolding parts_of
   parts_are = cut ∙ chunks_parts w (length l / w) l
 
@@ -51,9 +51,9 @@ module _ (w : ℕ) (l : List ℕ) (i : ℕ) {chunks : List (List ℕ)} (cut : ch
   unfolding parts_of
   parts_many = ap length parts_are ∙ parts_count w (length l / w) l
 
-  the_part : (d : List ℕ) → i < length l / w → get_or chunks i d ≡ take w (drop (w * i) l)
+  the_part : (i : ℕ) (d : List ℕ) → i < length l / w → get_or chunks i d ≡ take w (drop (w * i) l)
   unfolding parts_of
-  the_part d h = ap (λ parts. get_or parts i d) parts_are ∙ part_at w (length l / w) i l d h
+  the_part i d h = ap (λ parts. get_or parts i d) parts_are ∙ part_at w (length l / w) i l d h
 
 -- four bytes and eight
 bytes_4 : (l : List ℕ) → length l ≡ 4 → from_le_bytes w32 l ≡ little_endian l
@@ -67,16 +67,16 @@ bytes_8 l h = sym (ap little_endian (one_by_one 8 0 l 0 h) ∙ omega arith)
 pub word_read : (l : List ℕ) (i : ℕ) {chunks : List (List ℕ)} {n : ℕ} → chunks ≡ first_chunks 4 (length l / 4) l → i < length chunks
     → n ≡ from_le_bytes w32 (get_or chunks i []) → n ≡ word_at l i
 word_read l i {chunks} cut h e =
-    let k : i < length l / 4 = rw (parts_many 4 l i cut) at h in
-    let p : get_or chunks i [] ≡ take 4 (drop (4 * i) l) = the_part 4 l i cut [] k in
+    let k : i < length l / 4 = rw (parts_many 4 l cut) at h in
+    let p : get_or chunks i [] ≡ take 4 (drop (4 * i) l) = the_part 4 l cut i [] k in
     let g : length (get_or chunks i []) ≡ 4 = ap length p ∙ length-take-le 4 (drop (4 * i) l) (simp length-drop (omega arith)) in
     e ∙ bytes_4 (get_or chunks i []) g ∙ ap little_endian p ∙ sym (word_spelled l i k)
 
 pub long_read : (l : List ℕ) (i : ℕ) {chunks : List (List ℕ)} {n : ℕ} → chunks ≡ first_chunks 8 (length l / 8) l → i < length chunks
     → n ≡ from_le_bytes w64 (get_or chunks i []) → n ≡ long_at l i
 long_read l i {chunks} cut h e =
-    let k : i < length l / 8 = rw (parts_many 8 l i cut) at h in
-    let p : get_or chunks i [] ≡ take 8 (drop (8 * i) l) = the_part 8 l i cut [] k in
+    let k : i < length l / 8 = rw (parts_many 8 l cut) at h in
+    let p : get_or chunks i [] ≡ take 8 (drop (8 * i) l) = the_part 8 l cut i [] k in
     let g : length (get_or chunks i []) ≡ 8 = ap length p ∙ length-take-le 8 (drop (8 * i) l) (simp length-drop (omega arith)) in
     e ∙ bytes_8 (get_or chunks i []) g ∙ ap little_endian p ∙ sym (long_spelled l i k)
 
