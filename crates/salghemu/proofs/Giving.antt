@@ -2,16 +2,14 @@
 use mathlib.Core.Path.{◌≡◌, refl, sym, ap, ◌∙◌}
 use mathlib.Core.Bool.{false}
 use mathlib.Core.List.{List, ◌++◌, append_assoc}
-use Prim.Native.Nat.{ℕ, ◌+◌, ◌-◌, ◌*◌, ◌≤◌}
-use native.Mathlib.Nat.{zero-add}
+use Prim.Native.Nat.{ℕ, ◌-◌, ◌*◌, ◌≤◌}
 use native.Mathlib.Omega.{arith}
 use borrow.Author.Tests.{le-ltb}
 use borrow.Rule.Slice.PartMut.{mid_of, put_mid}
-use lib.ListN.{length, take, drop, length-append}
-use lib.Seq.{take_at}
+use lib.ListN.{length, drop, length-append}
 use lib.Ieee.{Float}
-use Rattle.rule.specs.Lists.{for_each, replaced, filled}
-use Rattle.rule.proofs.Lists.{for_each-length, part_replaced, filled_is, filled-whole, places_count}
+use Rattle.rule.specs.Lists.{for_each, filled}
+use Rattle.rule.proofs.Lists.{for_each-length, filled_is, filled-whole, places_count}
 use Rattle.sheet.specs.Marks.{marks_of}
 use Rattle.sheet.specs.Distance.{model_numbers}
 use Rattle.sheet.specs.declared.model.Model.{Model}
@@ -29,17 +27,11 @@ use Rattle.salghemu.specs.Whole.{winner_bytes, index_bytes, laid_over}
 
 -- ---- the winner's record
 
-winner_wide : (w : Winner Model) → length (winner_bytes w) ≡ 88
+pub winner_wide : (w : Winner Model) → length (winner_bytes w) ≡ 88
 unfolding winner_bytes model_numbers
 winner_wide w =
     length-append (bytes_of 4 w.count) _
     ∙ rw (length-append (bytes_of 4 w.number), length-append (double_bytes w.rms), bytes_wide 4 w.count, bytes_wide 4 w.number, double_wide w.rms, for_each-length double_bytes 8 double_wide (model_numbers w.model))
-
-pub winner_laid : (w : Winner Model) (l : List ℕ) {xs : List ℕ} → xs ≡ winner_bytes w → put_mid 0 (88 - 0) l xs ≡ laid_over (winner_bytes w) l
-unfolding replaced laid_over
-winner_laid w l {xs} e =
-    let wide : length xs ≡ 88 = ap length e ∙ winner_wide w in
-    part_replaced 0 88 xs l (zero-add (length xs) ∙ wide) ∙ rw (zero-add (length xs), e)
 
 module _ (w : Winner Model) (s : List ℕ) (room : length s ≡ 88) where
   abbrev counts : List ℕ
@@ -80,44 +72,36 @@ module _ (w : Winner Model) (s : List ℕ) (room : length s ≡ 88) where
 
 -- ---- the indices
 
-module _ (o : RansacOptions) (h : Model) (l : List Float) (entry : List ℕ) (short : length l ≤ 8000) (places : List ℕ) (wide : length places ≡ 2000)
-    {k : ℕ} (counted : k ≡ index_count o.thresh (distances_of o.ratio l h) places) {after : List ℕ} (is : after ≡ indexed o.thresh (distances_of o.ratio l h) places)
-  where
-    abbrev ds : List Float
-    ds = distances_of o.ratio l h
+module _ (o : RansacOptions) (l : List Float) (h : Model) where
+  abbrev ds : List Float
+  ds = distances_of o.ratio l h
 
-    abbrev xs : List ℕ
-    xs = indices_in o.thresh ds
+  abbrev xs : List ℕ
+  xs = indices_in o.thresh ds
 
-    most : length ds ≤ 2000
-    most = let a = distances-count o.ratio l h in let b = count l in omega (arith, a, b, short)
+  few : length xs ≤ length (marks_of l)
+  unfolding indices_in count_in
+  few = rw (places_count (close o.thresh) 0 ds, ← distances-count o.ratio l h) (count-within o.thresh ds)
 
-    not_cramped : cramped ds places ≡ false
+  module _ (places : List ℕ) (short : length l ≤ 8000) (wide : length places ≡ 2000) where
+    roomy : cramped ds places ≡ false
     unfolding cramped
-    not_cramped = rw (le-ltb (length places) (length ds) (let m = most in omega (arith, m, wide)), le-ltb 2000 (length ds) most)
-
-    k_is : k ≡ length xs
-    unfolding index_count indices_in count_in
-    k_is = counted ∙ rw not_cramped (sym (places_count (close o.thresh) 0 ds))
-
-    after_is : after ≡ xs ++ drop (length xs) places
-    unfolding indexed
-    after_is = is ∙ rw not_cramped
-
-    xs_few : length xs ≤ length ds
-    unfolding indices_in count_in
-    xs_few = rw (places_count (close o.thresh) 0 ds) (count-within o.thresh ds)
-
-    pub inside : k ≤ length after
-    inside = let m = xs_few in let n = most in let e : length after ≡ length xs + (length (drop (length xs) places)) = ap length after_is ∙ length-append xs _ in let f = k_is in omega (arith, e, f)
-
-    pub indices-taken : take k after ≡ xs
-    indices-taken = rw (after_is, k_is) (take_at xs (drop (length xs) places) (length xs) refl)
-
-    pub indices_laid : {r : List ℕ} → 4 * length (marks_of l) ≤ length entry → r ≡ filled (for_each (bytes_of 4) (take k after)) entry → r ≡ laid_over (index_bytes o l h) entry
-    unfolding laid_over index_bytes
-    indices_laid room e =
-        let m = xs_few in
+    roomy =
         let a = distances-count o.ratio l h in
-        let b = for_each-length (bytes_of 4) 4 (bytes_wide 4) xs in
-        e ∙ ap (λ ys. filled (for_each (bytes_of 4) ys) entry) indices-taken ∙ filled_is (for_each (bytes_of 4) xs) entry (omega (arith, m, a, b, room))
+        let b = count l in
+        rw (le-ltb (length places) (length ds) (omega (arith, a, b, short, wide)), le-ltb 2000 (length ds) (omega (arith, a, b, short)))
+
+    pub indices_count : index_count o.thresh ds places ≡ length xs
+    unfolding index_count indices_in count_in
+    indices_count = rw roomy (sym (places_count (close o.thresh) 0 ds))
+
+    pub indices_first : indexed o.thresh ds places ≡ xs ++ drop (length xs) places
+    unfolding indexed
+    indices_first = rw roomy
+
+  pub indices_laid : (entry : List ℕ) → 4 * length (marks_of l) ≤ length entry → laid_over (index_bytes o l h) entry ≡ filled (for_each (bytes_of 4) xs) entry
+  unfolding laid_over index_bytes
+  indices_laid entry room =
+      let m = few in
+      let b = for_each-length (bytes_of 4) 4 (bytes_wide 4) xs in
+      sym (filled_is (for_each (bytes_of 4) xs) entry (omega (arith, m, b, room)))

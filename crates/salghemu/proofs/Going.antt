@@ -1,19 +1,18 @@
 -- The trials of a run, one after the other: what is read up to place i, and what the run still comes to. Assumes nothing.
-use mathlib.Core.Path.{◌≡◌, refl, sym, ap, subst, ◌∙◌}
+use mathlib.Core.Path.{◌≡◌, refl, sym, ap, ◌∙◌}
 use mathlib.Core.Bool.{Bool, true, false, cond}
 use mathlib.Core.List.{List, [], ◌∷◌}
-use Prim.Native.Nat.{ℕ, zero, suc, ◌+◌, ◌/◌, ◌≤◌, ◌<◌}
+use Prim.Native.Nat.{ℕ, ◌+◌, ◌/◌, ◌≤◌, ◌<◌}
 use native.Mathlib.Numerals.{add-one}
 use native.Mathlib.Omega.{arith}
 use borrow.Author.Tests.{le-leb, lt-leb}
-use lib.ListN.{length, take, drop, get_or, length-map, get_or-map, drop_of_length-le}
+use lib.ListN.{length, drop, get_or, length-map, get_or-map, drop_of_length-le}
 use lib.Seq.{drop-cons}
 use lib.Ieee.{Float}
 use Rattle.std.specs.Prelude.{Ok}
 use Rattle.std.specs.Simd.{first_chunks}
 use Rattle.rule.specs.Answer.{Answer, refused, gives}
 use Rattle.rule.specs.Order.{first_failed}
-use Rattle.rule.specs.Lists.{first_parts, parts_of}
 use Rattle.sheet.specs.Marks.{marks_of, marks_tests}
 use Rattle.sheet.specs.declared.model.Model.{Model}
 use Rattle.book.specs.Score.{Judged}
@@ -22,6 +21,7 @@ use Rattle.book.specs.Calls.{tried, is_refusal, number_in}
 use Rattle.book.specs.Rule.{Stopped, broken, run_over}
 use Rattle.book.proofs.Along.{Counts, counts_fresh, counts_next, tried-called, called_open}
 use Rattle.book.proofs.Runs.{run_out, run_late, run_on, run-broken}
+use Rattle.fields.proofs.Reading.{parts_are}
 use Rattle.records.specs.Options.{options_tests}
 use Rattle.records.proofs.Formed.{few-iters}
 use Rattle.records.specs.declared.options.RansacOptions.{RansacOptions}
@@ -51,20 +51,12 @@ next_read a r h = go (is_refusal a.outcome) h
     go true e = absurd (let z : ◌≡◌ {A = ℕ} 0 1 = cc in omega (arith, z))
     go false e = (refl, cc)
 
--- ---- the records as the library cuts them; the lemma that fields has of it is private there
-
-chunks_parts : {A : Type 0} (w n : ℕ) (l : List A) → first_chunks w n l ≡ first_parts w n l
-unfolding first_parts
-chunks_parts w zero l = refl
-chunks_parts w (suc n) l = ap (λ rest. take w l ∷ rest) (chunks_parts w n (drop w l))
-
-parts_in : (trials : List ℕ) {parts : List (List ℕ)} → parts ≡ first_chunks 152 (length trials / 152) trials → parts ≡ records_in trials
-unfolding records_in parts_of
-parts_in trials cut = cut ∙ chunks_parts 152 (length trials / 152) trials
+-- ---- the records as the library cuts them
 
 pub by_records : (o : RansacOptions) (l : List Float) (table trials : List ℕ) {parts : List (List ℕ)} → parts ≡ first_chunks 152 (length trials / 152) trials
     → {r : Stopped Model} → r ≡ stop_of o (length (marks_of l)) l table parts → r ≡ stop_of o (length (marks_of l)) l table (records_in trials)
-by_records o l table trials cut h = h ∙ ap (stop_of o (length (marks_of l)) l table) (parts_in trials cut)
+unfolding records_in
+by_records o l table trials cut h = h ∙ ap (stop_of o (length (marks_of l)) l table) (parts_are 152 trials cut)
 
 -- ---- a run over marks l and stop entries `table`
 
@@ -89,30 +81,37 @@ module _ (o : RansacOptions) (l : List Float) (table : List ℕ) (parts : List (
   unfolding judged_in
   js_from i h = drop-cons js i (judged []) (rw js_count h) ∙ rw (get_or-map judged parts i [], add-one i)
 
-  pub record Going (i : ℕ) (s : State) : Type 0 where
+  pub record Facts (i : ℕ) (s : State) : Type 0 where
     pub options : s.options ≡ o
     pub marks : s.n ≡ n
     pub counts : Counts (rule_of o) (book_of s)
     pub owed : run_over (rule_of o) (book_of s) (drop i js) ≡ whole
 
-  pub going_none : {k : ℕ} (s : State) → view_state s ≡ fresh_run o k → k ≡ n → Going 0 s
+  -- The check shows a record field by field, and would not find the lemmas below by it.
+  pub data Going (i : ℕ) (s : State) : Type 0 where
+    going : Facts i s → Going i s
+
+  facts_in : {i : ℕ} {s : State} → Going i s → Facts i s
+  facts_in (going f) = f
+
+  pub going_none : (s : State) → view_state s ≡ fresh_run o n → Going 0 s
   unfolding fresh_run stop_of
-  going_none s e m =
+  going_none s e =
       let b : book_of s ≡ fresh (rule_of o) = ap (λ r. r.book) e in
-      record {
+      going (record {
         options = ap (λ r. r.options) e;
-        marks = ap (λ r. r.n) e ∙ m;
+        marks = ap (λ r. r.n) e;
         counts = rw b (counts_fresh (rule_of o));
         owed = ap (λ x. run_over (rule_of o) x js) b;
-      }
+      })
 
   module _ {i : ℕ} {s : State} (g : Going i s) where
     pub going_late : s.counts.bound ≤ s.counts.read → view_ran (Ok s) ≡ whole
     unfolding has_ended ended_at
-    going_late h = run_late (rule_of o) (book_of s) (le-leb s.counts.bound s.counts.read h) (drop i js) ∙ g.owed
+    going_late h = run_late (rule_of o) (book_of s) (le-leb s.counts.bound s.counts.read h) (drop i js) ∙ (facts_in g).owed
 
     pub going_out : length parts ≤ i → view_ran (Ok s) ≡ whole
-    going_out h = run_out (rule_of o) (book_of s) (drop i js) (let past : length js ≤ i = rw js_count h in drop_of_length-le js past) ∙ g.owed
+    going_out h = run_out (rule_of o) (book_of s) (drop i js) (let past : length js ≤ i = rw js_count h in drop_of_length-le js past) ∙ (facts_in g).owed
 
     module _ (valid : 0 ≡ first_failed (options_tests o)) (tested : 0 ≡ first_failed (marks_tests l)) (early : s.counts.read < s.counts.bound) (here : i < length parts) where
       abbrev bytes : List ℕ
@@ -134,14 +133,14 @@ module _ (o : RansacOptions) (l : List Float) (table : List ℕ) (parts : List (
       tried_is : tried (rule_of s.options) (book_of s) (judge_tested s.options s.n call) ≡ next
       unfolding call_with rule_of
       tried_is =
-          ap (λ (p : RansacOptions). tried (rule_of p) (book_of s) (judge_tested p s.n call)) g.options
-          ∙ ap (λ (k : ℕ). tried (rule_of o) (book_of s) (judge_tested o k call)) g.marks
+          ap (λ (p : RansacOptions). tried (rule_of p) (book_of s) (judge_tested p s.n call)) (facts_in g).options
+          ∙ ap (λ (k : ℕ). tried (rule_of o) (book_of s) (judge_tested o k call)) (facts_in g).marks
           ∙ ap (λ (j : Judged Model). tried (rule_of o) (book_of s) j) (same-judged o n call refl refl tested refl)
-          ∙ tried-called (rule_of o) (few-iters o (sym valid)) (book_of s) (judged bytes) g.counts
+          ∙ tried-called (rule_of o) (few-iters o (sym valid)) (book_of s) (judged bytes) (facts_in g).counts
           ∙ called_is
 
       owed_is : run_over (rule_of o) (book_of s) (judged bytes ∷ drop (i + 1) js) ≡ whole
-      owed_is = ap (run_over (rule_of o) (book_of s)) (sym (js_from i here)) ∙ g.owed
+      owed_is = ap (run_over (rule_of o) (book_of s)) (sym (js_from i here)) ∙ (facts_in g).owed
 
       module _ {a : Answer Run} (step : a ≡ next_of (step_booking (view_state s) call)) where
         nexts : a ≡ next_of (booking_of (view_state s) next)
@@ -158,26 +157,12 @@ module _ (o : RansacOptions) (l : List Float) (table : List ℕ) (parts : List (
             let told = next_read (booking_of (view_state s) next) (view_state t) (sym e ∙ nexts) in
             let run = told.1 in
             let book : book_of t ≡ next.book = ap (λ (x : Run). x.book) run in
-            record {
-              options = ap (λ (x : Run). x.options) run ∙ g.options;
-              marks = ap (λ (x : Run). x.n) run ∙ g.marks;
-              counts = rw (book, ← called_is) (counts_next (rule_of o) (book_of s) (judged bytes) g.counts);
+            going (record {
+              options = ap (λ (x : Run). x.options) run ∙ (facts_in g).options;
+              marks = ap (λ (x : Run). x.n) run ∙ (facts_in g).marks;
+              counts = rw (book, ← called_is) (counts_next (rule_of o) (book_of s) (judged bytes) (facts_in g).counts);
               owed =
                   ap (λ (x : Book Model). run_over (rule_of o) x (drop (i + 1) js)) book
                   ∙ sym (run_on (rule_of o) (book_of s) still (drop (i + 1) js) (judged bytes) told.0)
                   ∙ owed_is;
-            }
-
--- ---- a run that was opened with options o has these
-
-module _ (o : RansacOptions) (k : ℕ) (s₀ : State) (opened : view_state s₀ ≡ fresh_run o k) where
-  own-options : s₀.options ≡ o
-  unfolding fresh_run
-  own-options = ap (λ (r : Run). r.options) opened
-
-  module _ (l : List Float) (table : List ℕ) (parts : List (List ℕ)) {i : ℕ} {s : State} where
-    pub going_own : Going s₀.options l table parts i s → Going o l table parts i s
-    going_own g = subst (λ p. Going p l table parts i s) own-options g
-
-    pub going_back : Going o l table parts i s → Going s₀.options l table parts i s
-    going_back g = subst (λ p. Going p l table parts i s) (sym own-options) g
+            })

@@ -96,12 +96,6 @@ unfoldable pub later_answer : RansacOptions → (numbers : List Float) → (n : 
 later_answer o numbers n stops trials winner indices =
     after_tests (first_failed (later_tests numbers n (length stops) (length trials) winner indices)) (result_of (stop_of o n numbers (words_of stops) (records_in trials)))
 
--- with the options as they were read
-unfoldable pub options_answer : RansacOptions → (marks stops trials : List ℕ) → (winner indices : ℕ) → Answer (Winner Model)
-options_answer o marks stops trials winner indices =
-    after_tests (first_failed (order_of o marks stops trials winner indices))
-    (result_of (stop_of o (length (marks_of (numbers_in marks))) (numbers_in marks) (words_of stops) (records_in trials)))
-
 unfoldable pub run_answer : Files → (winner indices : ℕ) → Answer (Winner Model)
 run_answer f winner indices =
     after_tests (first_failed (run_tests f winner indices))

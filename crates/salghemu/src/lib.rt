@@ -11,7 +11,7 @@ ghost use Rattle.sheet.specs.Marks.{marks_of, marks_tests};
 ghost use Rattle.records.specs.Options.{options_of, options_tests};
 ghost use Rattle.records.specs.Marks.{numbers_in};
 ghost use Rattle.pick.specs.Run.{view_winner};
-ghost use Rattle.salghemu.specs.Whole.{later_tests, stop_of, records_in, view_ran, winner_bytes, index_bytes, laid_over, later_answer, options_answer, run_answer, Gave};
+ghost use Rattle.salghemu.specs.Whole.{later_tests, stop_of, records_in, view_ran, winner_bytes, index_bytes, laid_over, later_answer, run_answer, Gave};
 
 use fields::Field;
 use judge::Call;
@@ -20,6 +20,7 @@ use records::RansacOptions;
 use rule::Refusal;
 
 // Reads trials to the bound, the end of the list or the first that is refused. The marks are tested.
+#[tactic(auto, using(crate::proofs::Going::going_none, crate::proofs::Going::going_late, crate::proofs::Going::going_out, crate::proofs::Going::going_on, crate::proofs::Going::going_broken, crate::proofs::Going::by_records))]
 fn read_trials(
     o: RansacOptions,
     marks: &[f64],
@@ -30,6 +31,7 @@ fn read_trials(
     requires marks_pass { 0 ≡ first_failed (marks_tests marks.now) }
     ensures { view_ran result ≡ stop_of o (length (marks_of marks.now)) marks.now stops.now (records_in trials.now) }
 {
+    // No heap: a place for each mark of the longest run.
     let mut squares = [0.0; 2000];
     let mut s = pick::fresh_run(o, sheet::mark_count(marks));
     let (parts, _) = trials.as_chunks::<152>();
@@ -62,12 +64,12 @@ fn put_winner(part: &mut [u8], w: Winner)
 #[tactic(auto, unfolding(rule::specs::Order::first_failed, rule::specs::Order::room, crate::specs::Whole::later_tests, crate::specs::Whole::stop_bytes, crate::specs::Whole::trial_bytes, sheet::specs::Marks::point, sheet::specs::Marks::few), using(sheet::proofs::Places::count))]
 fn check_later(
     numbers: &[f64],
-    stops: usize,
-    trials: usize,
-    winner: usize,
-    indices: usize,
+    stops: &[u8],
+    trials: &[u8],
+    winner: &[u8],
+    indices: &[u8],
 ) -> Result<(), Refusal>
-    ensures { refusal_in result ≡ first_failed (later_tests numbers.now (length (marks_of numbers.now)) stops trials winner indices) }
+    ensures { refusal_in result ≡ first_failed (later_tests numbers.now (length (marks_of numbers.now)) (length stops.now) (length trials.now) (length winner.now) (length indices.now)) }
 {
     if !sheet::all_in_range(numbers) {
         return Err(Refusal::Point);
@@ -76,33 +78,35 @@ fn check_later(
     if n < 4 {
         return Err(Refusal::Few);
     }
-    if stops != 4 * (n + 1) {
+    if stops.len() != 4 * (n + 1) {
         return Err(Refusal::Stops);
     }
-    if trials % 152 != 0 {
+    if trials.len() % 152 != 0 {
         return Err(Refusal::Record);
     }
-    if winner < 88 || indices < 4 * n {
+    if winner.len() < 88 || indices.len() < 4 * n {
         return Err(Refusal::Room);
     }
     Ok(())
 }
 
-// The winner over marks of the right length, decoded, for lent outputs of these lengths.
+// The winner over marks of the right length, decoded, if the lent outputs have room for what it gives.
+#[tactic(auto, using(std::proofs::lemmas::Grind::common_steps, crate::proofs::Chain::after_number, crate::proofs::Chain::stops_fit, crate::proofs::Chain::marks_tested, crate::proofs::Chain::entries_read, sheet::proofs::Places::count), unfolding(crate::specs::Whole::later_answer, crate::specs::Whole::after_tests, crate::specs::Whole::result_of, crate::specs::Whole::won_by))]
 fn won(
     o: RansacOptions,
     numbers: &[f64],
     stops: &[u8],
     trials: &[u8],
-    winner: usize,
-    indices: usize,
+    winner: &[u8],
+    indices: &[u8],
 ) -> Result<Winner, Refusal>
     requires options_pass { 0 ≡ first_failed (options_tests o) }
     requires numbers_len { length numbers.now % 4 ≡ 0 }
     requires numbers_len_bound { length numbers.now ≤ 8000 }
-    ensures { told view_winner result ≡ later_answer o numbers.now (length (marks_of numbers.now)) stops.now trials.now winner indices }
+    ensures { told view_winner result ≡ later_answer o numbers.now (length (marks_of numbers.now)) stops.now trials.now (length winner.now) (length indices.now) }
 {
-    check_later(numbers, stops.len(), trials.len(), winner, indices)?;
+    check_later(numbers, stops, trials, winner, indices)?;
+    // No heap: a place for each entry of the longest run, one more than it has marks.
     let mut entries = [0; 2001];
     fields::read_words(stops, &mut entries);
     let n = sheet::mark_count(numbers);
@@ -111,6 +115,7 @@ fn won(
 }
 
 // Writes what a winner gives: its record, and the indices of its marks, four bytes each.
+#[tactic(auto, using(std::proofs::lemmas::Grind::common_steps, crate::proofs::Giving::winner_wide, crate::proofs::Giving::indices_count, crate::proofs::Giving::indices_first, crate::proofs::Giving::indices_laid), unfolding(crate::specs::Whole::laid_over))]
 fn give(o: RansacOptions, w: Winner, numbers: &[f64], winner: &mut [u8], indices: &mut [u8])
     requires numbers_len_bound { length numbers.now ≤ 8000 }
     requires in_bounds { 88 ≤ length winner.old }
@@ -119,36 +124,15 @@ fn give(o: RansacOptions, w: Winner, numbers: &[f64], winner: &mut [u8], indices
     ensures indices_after { indices.new ≡ laid_over (index_bytes o numbers.now w.model) indices.old }
 {
     put_winner(&mut winner[0..88], w);
+    // No heap: a place for each mark of the longest run.
     let mut squares = [0.0; 2000];
     let mut places = [0; 2000];
     let count = judge::write_inliers(o, w.model, numbers, &mut squares, &mut places);
     fields::write_all(&places[..count], indices);
 }
 
-// The run with options that were read.
-fn run_options(
-    o: RansacOptions,
-    marks: &[u8],
-    stops: &[u8],
-    trials: &[u8],
-    winner: &mut [u8],
-    indices: &mut [u8],
-) -> Result<(), Refusal>
-    ensures { Gave (options_answer o marks.now stops.now trials.now (length winner.old) (length indices.old)) o (numbers_in marks.now) winner.old indices.old (refusal_in result) winner.new indices.new }
-{
-    records::validate(o)?;
-    if marks.len() % 32 != 0 || 64_000 < marks.len() {
-        return Err(Refusal::Shape);
-    }
-    let mut room = [0.0; 8000];
-    records::read_marks(marks, &mut room);
-    let numbers = &room[..marks.len() / 8];
-    let w = won(o, numbers, stops, trials, winner.len(), indices.len())?;
-    give(o, w, numbers, winner, indices);
-    Ok(())
-}
-
 // The whole run: the winner written, or the refusal and nothing written.
+#[tactic(auto, using(crate::proofs::Chain::after_number, crate::proofs::Chain::after_none, crate::proofs::Chain::by_layers, crate::proofs::Chain::winner_fits, crate::proofs::Chain::indices_fit, crate::proofs::Chain::numbers_read), unfolding(rule::specs::Order::first_failed, rule::specs::Order::decided, records::specs::Options::options_answer, records::specs::Options::options_record, crate::specs::Whole::mark_bytes, crate::specs::Whole::number_of, crate::specs::Whole::written))]
 pub fn salghemu_run(
     options: &[u8],
     marks: &[u8],
@@ -160,5 +144,15 @@ pub fn salghemu_run(
     ensures { Gave (run_answer (record { options = options.now; marks = marks.now; stops = stops.now; trials = trials.now }) (length winner.old) (length indices.old)) (options_of options.now) (numbers_in marks.now) winner.old indices.old (refusal_in result) winner.new indices.new }
 {
     let o = records::read_options(options)?;
-    run_options(o, marks, stops, trials, winner, indices)
+    records::validate(o)?;
+    if marks.len() % 32 != 0 || 64_000 < marks.len() {
+        return Err(Refusal::Shape);
+    }
+    // No heap: four places for each mark of the longest run.
+    let mut room = [0.0; 8000];
+    records::read_marks(marks, &mut room);
+    let numbers = &room[..marks.len() / 8];
+    let w = won(o, numbers, stops, trials, winner, indices)?;
+    give(o, w, numbers, winner, indices);
+    Ok(())
 }
