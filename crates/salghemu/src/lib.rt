@@ -31,7 +31,7 @@ fn read_trials(
     requires marks_pass { 0 ≡ first_failed (marks_tests marks.now) }
     ensures { view_ran result ≡ stop_of o (length (marks_of marks.now)) marks.now stops.now (records_in trials.now) }
 {
-    // No heap: a place for each mark of the longest run.
+    // no heap, so there is a place for each mark of the longest run
     let mut squares = [0.0; 2000];
     let mut s = pick::fresh_run(o, sheet::mark_count(marks));
     let (parts, _) = trials.as_chunks::<152>();
@@ -106,7 +106,7 @@ fn won(
     ensures { told view_winner result ≡ later_answer o numbers.now (length (marks_of numbers.now)) stops.now trials.now (length winner.now) (length indices.now) }
 {
     check_later(numbers, stops, trials, winner, indices)?;
-    // No heap: a place for each entry of the longest run, one more than it has marks.
+    // no heap, so there is a place for each stop entry of the longest run
     let mut entries = [0; 2001];
     fields::read_words(stops, &mut entries);
     let n = sheet::mark_count(numbers);
@@ -124,7 +124,7 @@ fn give(o: RansacOptions, w: Winner, numbers: &[f64], winner: &mut [u8], indices
     ensures indices_after { indices.new ≡ laid_over (index_bytes o numbers.now w.model) indices.old }
 {
     put_winner(&mut winner[0..88], w);
-    // No heap: a place for each mark of the longest run.
+    // no heap, so there is a place for each mark of the longest run
     let mut squares = [0.0; 2000];
     let mut places = [0; 2000];
     let count = judge::write_inliers(o, w.model, numbers, &mut squares, &mut places);
@@ -148,7 +148,7 @@ pub fn salghemu_run(
     if marks.len() % 32 != 0 || 64_000 < marks.len() {
         return Err(Refusal::Shape);
     }
-    // No heap: four places for each mark of the longest run.
+    // no heap, so there are four places for each mark of the longest run
     let mut room = [0.0; 8000];
     records::read_marks(marks, &mut room);
     let numbers = &room[..marks.len() / 8];
