@@ -2,20 +2,21 @@
 -- Assumes nothing.
 use mathlib.Core.Path.{◌≡◌, refl, sym, ap, ◌∙◌}
 use mathlib.Core.Bool.{Bool, true, false, cond, ◌&&◌}
-use mathlib.Core.List.{List, [], ◌∷◌, map}
-use Prim.Native.Nat.{ℕ, ◌+◌, ◌≤◌, ◌<◌}
+use mathlib.Core.List.{List, [], ◌∷◌, ◌++◌, map}
+use Prim.Native.Nat.{ℕ, ◌+◌, ◌*◌, ◌≤◌, ◌<◌}
 use native.Mathlib.Omega.{arith}
 use borrow.Author.Tests.{lt-ltb, le-ltb}
-use lib.ListN.{length, get_or, set, length-map, get_or-map}
+use lib.ListN.{length, get_or, take, drop, set, length-map, get_or-map}
 use lib.Ieee.{Float, of_bits}
+use Rattle.std.specs.Prelude.{Some, None, is_none, unwrap_or}
 use Rattle.std.specs.Int.{from_bool}
-use Rattle.rule.specs.Lists.{filled}
-use Rattle.rule.proofs.Lists.{count_asked, Counted, counted_none, counted_next, counted-all, Stored, stored_none, stored_no_room, stored_more, stored_all}
+use Rattle.rule.specs.Lists.{count_of, for_each, filled}
+use Rattle.rule.proofs.Lists.{count_next, count_end, count_asked, alone, stored_no_room, stored_more, stored_all}
 use Rattle.root.specs.Root.{root_of}
 use Rattle.numbers.specs.Constants.{infinity}
 use Rattle.sheet.specs.Marks.{marks_of, mark_at, no_mark, point_of}
 use Rattle.numbers.specs.Measure.{beyond, distance, as_distance, if_counted}
-use Rattle.sheet.specs.Distance.{projection_of, beyond_under, squared_residual, measure_of, distance_of}
+use Rattle.sheet.specs.Distance.{projection_of, beyond_under, squared_residual, squared_distance_of, measure_of, distance_of}
 use Rattle.sheet.specs.declared.marks.Mark.{Mark}
 use Rattle.sheet.specs.declared.marks.Side.TheVariants.{Sheet, Pixel}
 use Rattle.sheet.specs.declared.model.Model.{Model}
@@ -40,49 +41,87 @@ module _ (ratio : Float) (l : List Float) (h : Model) where
   unfolding squares_of mark_at
   square-at i = sym (get_or-map (squared_of ratio h) (marks_of l) i no_mark)
 
--- ---- the walk over the marks: the squares that are stored up to place i, and how many of those marks are counted as beyond
+-- ---- the square as the code has it, none where the mark is beyond
 
-module _ (counting : Bool) (ratio : Float) (l : List Float) (h : Model) (entry : List Float) where
+module _ (ratio : Float) (h : Model) (m : Mark) where
+  pub or_infinite : unwrap_or (squared_distance_of ratio h m) infinity ≡ squared_of ratio h m
+  unfolding squared_distance_of squared_of
+  or_infinite = go (beyond_under h m) _
+    where
+      go : (b : Bool) (x : Float) → unwrap_or (cond b None (Some x)) infinity ≡ cond b infinity x
+      go true x = refl
+      go false x = refl
+
+  none_beyond : is_none (squared_distance_of ratio h m) ≡ beyond_under h m
+  unfolding squared_distance_of
+  none_beyond = go (beyond_under h m) _
+    where
+      go : (b : Bool) (x : Float) → is_none (cond b None (Some x)) ≡ b
+      go true x = refl
+      go false x = refl
+
+-- ---- the walk over the marks: the lent list after the first i of them, and how many of those from place i on are still to be counted as beyond
+
+module _ (ratio : Float) (l : List Float) (h : Model) (entry : List Float) where
+  unfoldable pub squares_after : ℕ → List Float
+  squares_after i = for_each alone (take i (squares_of ratio l h)) ++ drop (1 * i) entry
+
+  pub squares_none : squares_after 0 ≡ entry
+  unfolding squares_after for_each
+  squares_none = refl
+
+  many : length (marks_of l) ≡ length (squares_of ratio l h)
+  many = sym (squares_count ratio l h)
+
+  pub squares_no_room : length entry < length (marks_of l) → entry ≡ filled (squares_of ratio l h) entry
+  squares_no_room short = stored_no_room _ _ many short
+
+  module _ (room : length (marks_of l) ≤ length entry) where
+    pub squares_more : (i : ℕ) → i < length (marks_of l) → squares_after (i + 1) ≡ set (squares_after i) i (squared_of ratio h (mark_at l i))
+    unfolding squares_after
+    squares_more i inside = sym (stored_more _ _ many room (squared_of ratio h no_mark) inside (square-at ratio l h i) (record { is = refl })).is
+
+    pub squares_all : (i : ℕ) → i ≡ length (marks_of l) → squares_after i ≡ filled (squares_of ratio l h) entry
+    unfolding squares_after
+    squares_all i e = stored_all _ _ many room (omega (arith, e)) (omega (arith, e)) (record { is = refl })
+
+module _ (counting : Bool) (ratio : Float) (l : List Float) (h : Model) where
   abbrev far : Mark → Bool
-  far m = counting && beyond_under h m
+  far m = counting && is_none (squared_distance_of ratio h m)
 
-  pub record Measured (i found : ℕ) (s : List Float) : Type 0 where
-    pub stored : Stored (squares_of ratio l h) entry i s
-    pub counted : Counted far (marks_of l) no_mark found i
+  unfoldable pub beyond_from : ℕ → ℕ
+  beyond_from i = count_of far (drop i (marks_of l))
 
-  pub measured_none : Measured 0 0 entry
-  measured_none = record { stored = stored_none _ _; counted = counted_none _ _ _ }
+  pub beyond_next : (i : ℕ) → i < length (marks_of l) → beyond_from i ≡ from_bool (counting && is_none (squared_distance_of ratio h (mark_at l i))) + beyond_from (i + 1)
+  unfolding beyond_from mark_at
+  beyond_next i inside = count_next far (marks_of l) no_mark i inside ∙ ap (λ k. k + beyond_from (i + 1)) (counts (far (mark_at l i)))
+    where
+      counts : (b : Bool) → cond b 1 0 ≡ from_bool b
+      counts true = refl
+      counts false = refl
 
-  module _ {n : ℕ} (count : n ≡ length (marks_of l)) where
-    many : n ≡ length (squares_of ratio l h)
-    many = count ∙ sym (squares_count ratio l h)
+  pub beyond_end : (i : ℕ) → length (marks_of l) ≤ i → beyond_from i ≡ 0
+  unfolding beyond_from
+  beyond_end i h = count_end far (marks_of l) no_mark i h
 
-    pub no_room : length entry < n → (0 ≡ beyond_found counting l h entry) × (entry ≡ filled (squares_of ratio l h) entry)
+  module _ (entry : List Float) where
+    pub beyond_no_room : length entry < length (marks_of l) → 0 ≡ beyond_found counting l h entry
     unfolding beyond_found if_counted
-    no_room short = (rw (← count, lt-ltb (length entry) n short) (go counting), stored_no_room _ _ many short)
+    beyond_no_room short = rw (lt-ltb (length entry) (length (marks_of l)) short) (go counting)
       where
         go : (b : Bool) → ◌≡◌ {A = ℕ} 0 (cond b 0 0)
         go true = refl
         go false = refl
 
-    module _ (room : n ≤ length entry) where
-      pub measured_more : {i found r : ℕ} {q : Float} {s : List Float} {b : Bool} → i < n → q ≡ squared_of ratio h (mark_at l i) → b ≡ beyond_under h (mark_at l i) → r ≡ from_bool (counting && b) → Measured i found s
-          → Measured (i + 1) (found + r) (set s i q)
-      unfolding mark_at
-      measured_more {i} {b = b} inside square answer one k =
-          record {
-            stored = stored_more _ _ many room (squared_of ratio h no_mark) inside (square ∙ square-at ratio l h i) k.stored;
-            counted = counted_next far (marks_of l) no_mark (rw (← count) inside) (ap (λ b. counting && b) answer) (one ∙ (counts (counting && b)).0, rw one (counts (counting && b)).1) k.counted;
-          }
-        where
-          counts : (b : Bool) → (from_bool b ≡ cond b 1 0) × (from_bool b ≤ 1)
-          counts true = (refl, omega arith)
-          counts false = (refl, omega arith)
+    pub beyond_all : length (marks_of l) ≤ length entry → beyond_from 0 ≡ beyond_found counting l h entry
+    unfolding beyond_from beyond_found beyond_of if_counted
+    beyond_all room =
+        rw (le-ltb (length entry) (length (marks_of l)) room)
+        (count_asked counting (λ m. is_none (squared_distance_of ratio h m)) (marks_of l) ∙ (λ i. cond counting (count_of (λ m. none_beyond ratio h m i) (marks_of l)) 0))
 
-      pub measured_all : {i found : ℕ} {s : List Float} → i ≤ n → n ≤ i → Measured i found s → (found ≡ beyond_found counting l h entry) × (s ≡ filled (squares_of ratio l h) entry)
-      unfolding beyond_found beyond_of if_counted
-      measured_all {i} g e k =
-          (counted-all _ _ _ (rw (← count) e) k.counted ∙ count_asked counting (beyond_under h) (marks_of l) ∙ rw (← count, le-ltb (length entry) n room), stored_all _ _ many room g e k.stored)
+pub one_more : (b : Bool) → from_bool b ≤ 1
+one_more true = omega arith
+one_more false = omega arith
 
 -- ---- the distance is the root of its square
 

@@ -4,30 +4,17 @@
 // threshold.
 #![tactic(auto)]
 
-ghost use Rattle.std.specs.Prelude.{◌≡◌, is_none, unwrap_or};
+ghost use Rattle.std.specs.Prelude.{◌≡◌};
 ghost use Rattle.rule.specs.Lists.{filled};
-ghost use Rattle.numbers.specs.Constants.{infinity};
-ghost use Rattle.sheet.specs.Distance.{beyond_under};
-ghost use Rattle.measure.specs.Distances.{squared_of, squares_of, beyond_found};
+ghost use Rattle.measure.specs.Distances.{squares_of, beyond_found};
 
-use sheet::{Mark, Model, Side};
-
-// The square of a mark's distance; none where the mark is beyond, that is unless s > 0. It is worked out
-// either way, so that the compiler may make it a choice of two numbers and no jump.
-#[tactic(auto, unfolding(crate::specs::Distances::squared_of, sheet::specs::Distance::beyond_under))]
-fn squared_mark(h: Model, ratio: f64, m: Mark) -> Option<f64>
-    ensures square_value { unwrap_or result infinity ≡ squared_of ratio h m }
-    ensures beyond_value { is_none result ≡ beyond_under h m }
-{
-    let to = sheet::project(h, sheet::point_of(m, Side::Sheet));
-    let square = sheet::squared_residual(to.at, sheet::point_of(m, Side::Pixel), ratio);
-    (to.s > 0.0).then_some(square)
-}
+use sheet::Model;
 
 // Writes the square of each mark's distance to the front of `squares`, and answers how many marks are
-// beyond, if they are to be counted; where it has not a place for each mark, it writes nothing and
-// answers 0. The walk takes as long whether it counts or not, so who doesn't ask for the number pays
-// nothing for it.
+// beyond, if they are to be counted. Where `squares` has not a place for each mark it writes nothing and
+// answers 0, as for none: the picker lends a place for each, so this is no refusal. `counting` picks no
+// step: the walk is the same and takes as long, and who doesn't ask is promised 0.
+#[tactic(auto, using(crate::proofs::Squares::squares_none, crate::proofs::Squares::squares_no_room, crate::proofs::Squares::squares_more, crate::proofs::Squares::squares_all, crate::proofs::Squares::beyond_next, crate::proofs::Squares::beyond_end, crate::proofs::Squares::beyond_no_room, crate::proofs::Squares::beyond_all, crate::proofs::Squares::or_infinite, crate::proofs::Squares::one_more))]
 pub fn squared_residuals(
     h: Model,
     ratio: f64,
@@ -44,7 +31,7 @@ pub fn squared_residuals(
     }
     let mut beyond = 0;
     for i in 0..n {
-        let square = squared_mark(h, ratio, sheet::mark_at(marks, i));
+        let square = sheet::squared_distance(h, sheet::mark_at(marks, i), ratio);
         squares[i] = square.unwrap_or(f64::INFINITY);
         beyond += usize::from(counting & square.is_none());
     }

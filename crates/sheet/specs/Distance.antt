@@ -53,6 +53,12 @@ beyond_under h m = not (lt zero' (projection_of h (point_of Sheet m)).s)
 unfoldable pub squared_residual : (ratio : Float) → (to pixel : Point) → Float
 squared_residual ratio to pixel = squared_off ratio (to.x ⊖ pixel.x) (to.y ⊖ pixel.y)
 
+-- that square, and none where the mark is beyond
+unfoldable pub squared_distance_of : (ratio : Float) → Model → Mark → Option Float
+squared_distance_of ratio h m =
+    let to = projection_of h (point_of Sheet m) in
+    cond (beyond_under h m) None (Some (squared_residual ratio to.at (point_of Pixel m)))
+
 -- Beyond, or else the root of that square; where the square is a NaN, so is the distance.
 unfoldable pub measure_of : (ratio : Float) → Model → Mark → Measure
 measure_of ratio h m =

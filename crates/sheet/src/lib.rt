@@ -9,4 +9,7 @@ pub use marks::{
     Mark, Point, Points, Side, all_in_range, check_marks, check_shape, mark_at, mark_count,
     point_of, squared_apart,
 };
-pub use model::{Model, Projection, distance, model_finite, project, residual, squared_residual};
+pub use model::{
+    Model, Projection, distance, model_finite, project, residual, squared_distance,
+    squared_residual,
+};

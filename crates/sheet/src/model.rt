@@ -5,7 +5,7 @@ ghost use Rattle.rule.specs.Answer.{told};
 ghost use Rattle.numbers.specs.Finite.{all_finite};
 ghost use Rattle.numbers.specs.Constants.{farthest};
 ghost use Rattle.sheet.specs.Marks.{all_within, mark_numbers};
-ghost use Rattle.sheet.specs.Distance.{projection_of, squared_residual, measure_of, distance_answer, measured, model_of, model_numbers};
+ghost use Rattle.sheet.specs.Distance.{projection_of, squared_residual, squared_distance_of, measure_of, distance_answer, measured, model_of, model_numbers};
 
 use crate::marks::{Mark, Point, Side, all_in_range, point_of};
 use rule::Refusal;
@@ -84,17 +84,23 @@ pub fn squared_residual(to: Point, pixel: Point, ratio: f64) -> f64
     numbers::squared_off(ratio, to.x - pixel.x, to.y - pixel.y)
 }
 
-// The distance for any numbers: none where the mark is beyond, that is unless s > 0. It refuses nothing.
-#[tactic(auto, unfolding(crate::specs::Distance::measure_of, crate::specs::Distance::beyond_under))]
+// The square of the distance, for any numbers: none where the mark is beyond, that is unless s > 0. It
+// is worked out either way, so that the compiler may make it a choice of two numbers and no jump.
+#[tactic(auto, unfolding(crate::specs::Distance::squared_distance_of, crate::specs::Distance::beyond_under))]
+pub fn squared_distance(h: Model, m: Mark, ratio: f64) -> Option<f64>
+    ensures { result ≡ squared_distance_of ratio h m }
+{
+    let to = project(h, point_of(m, Side::Sheet));
+    let square = squared_residual(to.at, point_of(m, Side::Pixel), ratio);
+    (to.s > 0.0).then_some(square)
+}
+
+// The distance for any numbers, none where the mark is beyond. It refuses nothing.
+#[tactic(auto, unfolding(crate::specs::Distance::measure_of, crate::specs::Distance::squared_distance_of))]
 pub fn residual(h: Model, m: Mark, ratio: f64) -> Option<f64>
     ensures { measured result ≡ measure_of ratio h m }
 {
-    let to = project(h, point_of(m, Side::Sheet));
-    if to.s > 0.0 {
-        Some(root::sqrt(squared_residual(to.at, point_of(m, Side::Pixel), ratio)))
-    } else {
-        None
-    }
+    squared_distance(h, m, ratio).map(root::sqrt)
 }
 
 // Whether every number of a candidate is finite.

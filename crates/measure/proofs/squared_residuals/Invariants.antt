@@ -1,6 +1,13 @@
 -- `measure::squared_residuals` meets its contract. Assumes nothing.
-use Rattle.measure.proofs.Squares.{Measured}
+use mathlib.Core.Path.{◌≡◌}
+use Prim.Native.Nat.{◌+◌, ◌≤◌}
+use Rattle.measure.proofs.Squares.{squares_after, beyond_from}
 use Rattle.measure.proofs.squared_residuals.Given as goal
 
 abbrev pub invariant-loop-i : goal.invariant-loop-i
-invariant-loop-i l = Measured l.counting l.ratio l.marks l.h l.initial.squares l.i l.beyond l.squares
+invariant-loop-i l =
+    record {
+      stored : l.squares ≡ squares_after l.ratio l.marks l.h l.initial.squares l.i;
+      counted : l.beyond + beyond_from l.counting l.ratio l.marks l.h l.i ≡ beyond_from l.counting l.ratio l.marks l.h 0;
+      few : l.beyond ≤ l.i;
+    }
