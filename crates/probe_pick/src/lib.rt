@@ -119,7 +119,7 @@ pub extern "C" fn probe_winner_indices(state: &[u64], marks: &[f64], indices: &m
     }
     match pick::winner_indices(reading::state_in(state), marks, indices) {
         Ok(n) => n as u64,
-        Err(refusal) => 0x1_0000_0000 + refusal as u64,
+        Err(refusal) => 0x1_0000_0000 + u64::from(u32::from(refusal)),
     }
 }
 

@@ -1,11 +1,13 @@
 // A state's 25 words, and a trial's 29.
-ghost use Rattle.std.specs.Prelude.{◌≡◌};
+ghost use Rattle.std.specs.Prelude.{◌≡◌, map};
 ghost use Rattle.book.specs.Book.{held};
+ghost use Rattle.sheet.specs.Distance.{model_numbers};
 ghost use Rattle.pick.specs.Run.{view_winner, view_best, view_state, view_outcome, view_tried};
-ghost use Rattle.probe_pick.specs.Words.{made_words, count_words, winner_words, run_words, outcome_words, tried_words};
+ghost use Rattle.probe_pick.specs.Words.{bits, made_words, count_words, winner_words, run_words, outcome_words, tried_words};
 
 use pick::{Outcome, State, Tried, Winner};
 use records::RansacOptions;
+use sheet::Model;
 
 // The words of options by themselves: those at a state's front, and the ratio's.
 pub(crate) fn made_words(o: RansacOptions) -> [u64; 6]
@@ -14,8 +16,8 @@ pub(crate) fn made_words(o: RansacOptions) -> [u64; 6]
     [
         fields::bits_of(o.thresh),
         fields::bits_of(o.confidence),
-        o.max_iters as u64,
-        o.min_inliers as u64,
+        u64::from(o.max_iters),
+        u64::from(o.min_inliers),
         u64::from(o.refit),
         fields::bits_of(o.ratio),
     ]
@@ -27,35 +29,34 @@ fn count_words(s: State) -> [u64; 6]
     let c = s.counts;
     [
         s.n as u64,
-        c.read as u64,
-        c.empty as u64,
-        c.few as u64,
-        c.scored as u64,
-        c.bound as u64,
+        u64::from(c.read),
+        u64::from(c.empty),
+        u64::from(c.few),
+        u64::from(c.scored),
+        u64::from(c.bound),
     ]
 }
 
-#[tactic(auto, unfolding(crate::specs::Words::winner_words, sheet::specs::Distance::model_numbers))]
+#[tactic(auto, unfolding(sheet::specs::Distance::model_numbers))]
+fn model_words(m: Model) -> [u64; 9]
+    ensures { result ≡ map bits (model_numbers m) }
+{
+    m.numbers().map(fields::bits_of)
+}
+
+#[tactic(auto, unfolding(crate::specs::Words::winner_words))]
 fn held_words(w: Winner) -> [u64; 13]
     ensures { result ≡ winner_words (held (view_winner w)) }
 {
-    let [h0, h1, h2, h3, h4, h5, h6, h7, h8] = w.model.numbers().map(fields::bits_of);
-    let rms = fields::bits_of(w.rms);
-    [
+    let mut words = [0; 13];
+    words[..4].copy_from_slice(&[
         1,
-        w.count as u64,
-        w.number as u64,
-        rms,
-        h0,
-        h1,
-        h2,
-        h3,
-        h4,
-        h5,
-        h6,
-        h7,
-        h8,
-    ]
+        u64::from(w.count),
+        u64::from(w.number),
+        fields::bits_of(w.rms),
+    ]);
+    words[4..].copy_from_slice(&model_words(w.model));
+    words
 }
 
 #[tactic(auto, unfolding(crate::specs::Words::winner_words))]
@@ -83,11 +84,11 @@ fn outcome_words(outcome: Outcome) -> [u64; 3]
     ensures { result ≡ outcome_words (view_outcome outcome) }
 {
     match outcome {
-        Outcome::Refused(refusal) => [0, refusal as u64, 0],
+        Outcome::Refused(refusal) => [0, u64::from(u32::from(refusal)), 0],
         Outcome::Empty => [1, 0, 0],
-        Outcome::Few(count) => [2, count as u64, 0],
-        Outcome::Held(count, rms) => [3, count as u64, fields::bits_of(rms)],
-        Outcome::Won(count, rms) => [4, count as u64, fields::bits_of(rms)],
+        Outcome::Few(count) => [2, u64::from(count), 0],
+        Outcome::Held(count, rms) => [3, u64::from(count), fields::bits_of(rms)],
+        Outcome::Won(count, rms) => [4, u64::from(count), fields::bits_of(rms)],
     }
 }
 
@@ -97,7 +98,7 @@ pub(crate) fn tried_words(t: Tried) -> [u64; 29]
     ensures { result ≡ tried_words (view_tried t) }
 {
     let mut words = [0; 29];
-    words[28] = t.beyond as u64;
+    words[28] = u64::from(t.beyond);
     words[25..28].copy_from_slice(&outcome_words(t.outcome));
     words[..25].copy_from_slice(&state_words(t.state));
     words
