@@ -73,17 +73,16 @@ unfolding if_passed
 by_number zero w t e = (refl, e)
 by_number (suc k) w t e = absurd (let z : ◌≡◌ {A = ℕ} 0 1 = cc in omega (arith, z))
 
--- The run is of the call's marks, the count is the model's own, and the front of the list has its squares.
-pub record Leaves (o : RansacOptions) (n : ℕ) (l : List Float) (m : Model) (count : ℕ) (s : List Float) : Type 0 where
-  pub fits : n ≤ length s
-  pub counted : count ≡ count_in o.thresh (distances_of o.ratio l m)
-  pub roots : map root_of (take n s) ≡ distances_of o.ratio l m
+-- The count is the model's own, and the front of the list has its squares.
+record Leaves (o : RansacOptions) (n : ℕ) (l : List Float) (m : Model) (count : ℕ) (s : List Float) : Type 0 where
+  counted : count ≡ count_in o.thresh (distances_of o.ratio l m)
+  roots : map root_of (take n s) ≡ distances_of o.ratio l m
 
 module _ (o : RansacOptions) (n : ℕ) (c : Call) (entry : List Float) where
   abbrev failed : ℕ
   failed = first_failed (tested_tests n c)
 
-  pub scored-leaves : (t : Standing Model) {s : List Float} → scored t ≡ judge_tested o n c → s ≡ squares_left o n c entry → 2000 ≤ length s → Leaves o n c.marks t.model t.count s
+  scored-leaves : (t : Standing Model) {s : List Float} → scored t ≡ judge_tested o n c → s ≡ squares_left o n c entry → 2000 ≤ length s → Leaves o n c.marks t.model t.count s
   unfolding judge_tested byTests squares_left worth rule_of tested_tests tested_marks scored_in model_in
   scored-leaves t {s} h e room =
       let found = by_number failed (worth o c) t (sym h) in
@@ -97,7 +96,6 @@ module _ (o : RansacOptions) (n : ℕ) (c : Call) (entry : List Float) where
       ∙ after_stands o c.marks c.stops t.model entry (trial_of c.bytes) (ap scored_in (sym is))
       ∙ ap (λ j. filled (squares_of o.ratio c.marks (model_in t.model j)) entry) (sym is) in
       record {
-        fits = omega (arith, run.0, run.1, k, room);
         counted = (judge_own (rule_of o) (distances_of o.ratio c.marks) c.stops (trial_of c.bytes) t (sym is)).0;
         roots = rw (run.0, stays) (roots_stored o.ratio c.marks t.model entry (let long = ap length stays ∙ filled-length (squares_of o.ratio c.marks t.model) entry in omega (arith, run.1, k, room, long)));
       }
@@ -110,7 +108,7 @@ module _ (o : RansacOptions) (n : ℕ) (c : Call) {v : Verdict Support} (found :
     support_is : scored (supported (rms_under o c.marks) s) ≡ judge_tested o n c
     support_is = ap (judged_as (supported (rms_under o c.marks))) (sym is) ∙ found
 
-    pub support_leaves : Leaves o n c.marks s.model s.count left
+    support_leaves : Leaves o n c.marks s.model s.count left
     support_leaves = scored-leaves o n c entry _ support_is leaves room
 
     pub support_scored : scored (support_with o.thresh (take n left) s) ≡ judge_tested o n c

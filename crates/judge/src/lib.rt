@@ -5,7 +5,7 @@
 
 mod run;
 
-ghost use Rattle.std.specs.Prelude.{◌≡◌};
+ghost use Rattle.std.specs.Prelude.{◌≡◌, ◌≤◌, OnOk, length};
 ghost use Rattle.rule.specs.Answer.{refusal_in};
 ghost use Rattle.rule.specs.Lists.{filled};
 ghost use Rattle.rule.specs.Order.{first_failed};
@@ -61,7 +61,8 @@ impl<'a> Call<'a> {
     // The tests that take no walk over the marks, in order: refused with 5, 7 or 8.
     #[tactic(auto, using(sheet::proofs::Places::count), unfolding(rule::specs::Order::first_failed, sheet::specs::Marks::shape, sheet::specs::Marks::shape_tests, sheet::specs::Marks::few, crate::specs::Judging::tested_marks, crate::specs::Judging::of_run, crate::specs::Judging::entries))]
     fn check(self, n: usize) -> Result<(), Refusal>
-        ensures { refusal_in result ≡ first_failed (tested_marks n self.entry.marks.now self.entry.stops.now) }
+        ensures refusal_value { refusal_in result ≡ first_failed (tested_marks n self.entry.marks.now self.entry.stops.now) }
+        ensures few_enough { OnOk result ((n ≤ 2000) × (length self.entry.marks.now ≤ 8000)) }
     {
         if sheet::mark_count(self.marks) != n {
             return Err(Refusal::Shape);
@@ -93,6 +94,7 @@ impl Support {
 // Judges a trial of a run of `n` marks but for the root mean square, and leaves the squares of the
 // model that stands at the front of `squares`. The marks beyond are counted if `counting` says so, else
 // their number is 0. The numbers of the marks are not tested: whoever calls has done it, once for a run.
+#[tactic(auto, using(crate::proofs::Ways::judge_in_turn, crate::proofs::Ways::beyond_in_turn, crate::proofs::Ways::squares_in_turn), unfolding(numbers::specs::Measure::if_counted))]
 pub fn count_support(
     o: RansacOptions,
     n: usize,
@@ -100,6 +102,7 @@ pub fn count_support(
     squares: &mut [f64; 2000],
     counting: bool,
 ) -> Result<Judgement<Support>, Refusal>
+    ensures few_enough { OnOk result (n ≤ 2000) }
     ensures finding_value { view_finding (rms_under o call.entry.marks.now) result ≡ judge_tested o n (call_of call.entry) }
     ensures beyond_value { beyond_in result ≡ if_counted counting (beyond_by (tested_tests n (call_of call.entry)) (call_of call.entry)) }
     ensures squares_after { squares.new ≡ squares_left o n (call_of call.entry) squares.old }
@@ -115,7 +118,7 @@ pub fn count_support(
 }
 
 // Judges a trial of a run of `n` marks. The numbers of the marks are not tested either.
-#[tactic(auto, unfolding(numbers::specs::Measure::if_counted))]
+#[tactic(auto, using(crate::proofs::Left::support_scored), unfolding(numbers::specs::Measure::if_counted))]
 pub fn judge(o: RansacOptions, n: usize, call: Call) -> Result<Judgement<Standing>, Refusal>
     ensures verdict_value { view_verdict result ≡ judge_tested o n (call_of call.entry) }
     ensures beyond_value { beyond_in result ≡ beyond_by (tested_tests n (call_of call.entry)) (call_of call.entry) }

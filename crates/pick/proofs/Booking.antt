@@ -7,5 +7,5 @@ use Rattle.pick.specs.Run.{book_of}
 use Rattle.pick.specs.declared.run_state.State.{State}
 
 pub open_counts : (s : State) → is_closed (book_of s) ≡ false → Small s.counts.read s.counts.empty s.counts.few s.counts.scored
-unfolding is_closed book_of
+unfolding is_closed
 open_counts s h = small _ _ _ _ _ h
