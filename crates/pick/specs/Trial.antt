@@ -39,9 +39,12 @@ unfoldable pub step_answer : Run → Call → Answer
 step_answer r c = tried_with r (judgement_tested r.options r.n c)
 
 -- the answer where a trial is refused: the old state and the number
+abbrev pub refused_with : Run → ℕ → Answer
+refused_with r k = record { run = r; outcome = is_refused k; beyond = 0 }
+
 abbrev pub answer_in : State → Result Tried Refusal → Answer
 answer_in s (Ok t) = view_tried t
-answer_in s (Err e) = record { run = view_state s; outcome = is_refused (number_of e); beyond = 0 }
+answer_in s (Err e) = refused_with (view_state s) (number_of e)
 
 -- ---- the same for a run that gives no answer: its state alone
 

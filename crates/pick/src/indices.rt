@@ -10,7 +10,7 @@ use crate::run_state::State;
 use rule::Refusal;
 
 // The tests after 11, in order.
-#[tactic(auto, using(crate::proofs::Order::marks_first), unfolding(rule::specs::Order::first_failed, rule::specs::Order::room, crate::specs::Indices::marks_order, judge::specs::Judging::of_run, sheet::specs::Marks::few))]
+#[tactic(auto, using(crate::proofs::Order::marks_first, crate::proofs::Order::above_0), unfolding(rule::specs::Order::first_failed, rule::specs::Order::room, crate::specs::Indices::marks_order, judge::specs::Judging::of_run, sheet::specs::Marks::few))]
 fn check_order(n: usize, marks: &[f64], places: usize) -> Result<(), Refusal>
     ensures { refusal_in result ≡ first_failed (marks_order n marks.now places) }
 {

@@ -79,7 +79,7 @@ impl BeforeEnd {
 }
 
 // `trial` and `step` but for the old state, which they put beside a refusal.
-#[tactic(auto, unfolding(crate::specs::Trial::trial_answer, crate::specs::Trial::step_answer, book::specs::Calls::tried, book::specs::Book::entered, rule::specs::Order::first_failed, rule::specs::Order::if_passed, judge::specs::Judging::judge_of, judge::specs::Judging::judge_tested, judge::specs::Judging::judged_by, judge::specs::Judging::beyond_by, judge::specs::Judging::call_tests, judge::specs::Judging::tested_tests, judge::specs::Judging::tested_marks, judge::specs::Judging::of_run, sheet::specs::Marks::marks_tests, sheet::specs::Marks::shape, sheet::specs::Marks::point))]
+#[tactic(auto, using(crate::proofs::Order::trial_by_tests))]
 fn tried(s: State, call: Call) -> Result<Tried, Refusal>
     ensures { answer_in s result ≡ trial_answer (view_state s) (call_of call.entry) }
 {
