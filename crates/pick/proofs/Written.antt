@@ -9,7 +9,9 @@ use borrow.Author.Tests.{ltb-false, le-ltb}
 use lib.Dec.{ltb, eqb}
 use lib.ListN.{length, drop}
 use lib.Ieee.{Float}
-use Rattle.rule.specs.Order.{first_failed, room}
+use Rattle.std.proofs.lemmas.Grind.{common_steps}
+use Rattle.rule.specs.Answer.{gives}
+use Rattle.rule.specs.Order.{first_failed, decided, if_passed, room}
 use Rattle.rule.proofs.Tests.{neither}
 use Rattle.rule.proofs.Order.{first_passed}
 use Rattle.rule.proofs.Lists.{places_count}
@@ -21,7 +23,8 @@ use Rattle.measure.specs.Distances.{distances_of}
 use Rattle.measure.proofs.Squares.{distances-count}
 use Rattle.score.specs.Places.{indices_in, cramped, indexed, index_count}
 use Rattle.judge.specs.Judging.{of_run}
-use Rattle.pick.specs.Indices.{marks_order}
+use Rattle.pick.specs.Run.{Run}
+use Rattle.pick.specs.Indices.{marks_order, under_answer, under_after, winner_answer, winner_after, indices_answer, indices_after}
 
 module _ (n : ℕ) (ratio thresh : Float) (h : Model) (l : List Float) (entry : List ℕ) (passed : 0 ≡ first_failed (marks_order n l (length entry))) where
   abbrev ds : List Float
@@ -51,3 +54,8 @@ module _ (n : ℕ) (ratio thresh : Float) (h : Model) (l : List Float) (entry : 
   pub all_written : indexed thresh ds entry ≡ indices ++ drop (length indices) entry
   unfolding indexed
   all_written = rw roomy
+
+-- a number that is answered is of the front of the list that is left
+pub count_inside : (r : Run) (l : List Float) (entry : List ℕ) {k : ℕ} → gives k ≡ indices_answer r l entry → k ≤ length (indices_after r l entry)
+unfolding decided if_passed indices_answer indices_after winner_answer winner_after under_answer under_after
+count_inside r l entry e = grind (arith, common_steps)

@@ -45,9 +45,10 @@ fn print_indices(rt: &impl Print, indices: &[u32]) -> io::Result<()> {
 
 // The lines of a winner that is held. The indices are never refused here: the marks are those of the
 // opening, and there is a place for each (`indices-written` of crates/pick/proofs/Accepted.antt).
-#[tactic(auto, unfolding(rule::specs::Order::decided, rule::specs::Order::if_passed, pick::specs::Indices::indices_answer, pick::specs::Indices::indices_after, pick::specs::Indices::winner_answer, pick::specs::Indices::winner_after, pick::specs::Indices::under_answer, pick::specs::Indices::under_after))]
+#[tactic(auto, using(std::proofs::lemmas::Grind::common_steps, pick::proofs::Written::count_inside))]
 fn print_held(rt: &impl Print, s: State, w: Winner, marks: &[f64]) -> io::Result<()> {
     println!(rt; "winner {} {} {}", w.number, w.count, Bits(w.rms))?;
+    // no heap, so there is a place for each mark of the longest run
     let mut indices = [0u32; 2000];
     match pick::winner_indices(s, marks, &mut indices) {
         Ok(count) => print_indices(rt, &indices[..count]),
