@@ -14,6 +14,7 @@ ghost use Rattle.probe.specs.Flat.{refusal_of, count_of, place_of};
 
 use numbers::Quadratic;
 
+#[tactic(auto, using(rule::proofs::Nan::nan_bits_lem))]
 fn none() -> f64
     ensures { result ≡ nan }
 {
@@ -53,6 +54,7 @@ pub extern "C" fn probe_root_refusal(a: f64) -> u32
     rule::number(root::root(a))
 }
 
+#[tactic(auto, unfolding(numbers::specs::Quadratic::view_quadratic))]
 #[unsafe(no_mangle)]
 pub extern "C" fn probe_quadratic_count(a: f64, b: f64, c: f64) -> u32
     ensures { result ≡ count_of (quadratic_answer a b c) }
@@ -61,10 +63,11 @@ pub extern "C" fn probe_quadratic_count(a: f64, b: f64, c: f64) -> u32
         Ok(Quadratic::NoRoot) => 0,
         Ok(Quadratic::One(_)) => 1,
         Ok(Quadratic::Two(_, _)) => 2,
-        Err(refusal) => refusal as u32,
+        Err(refusal) => u32::from(refusal),
     }
 }
 
+#[tactic(auto, unfolding(numbers::specs::Quadratic::view_quadratic))]
 #[unsafe(no_mangle)]
 pub extern "C" fn probe_quadratic_root(a: f64, b: f64, c: f64, place: u32) -> f64
     ensures { result ≡ place_of place (quadratic_answer a b c) }
