@@ -1,5 +1,5 @@
 -- The entry of a 3 by 3 matrix at a place, row by row. Assumes nothing.
-use mathlib.Core.Path.{◌≡◌, refl, sym, ap, subst, ◌∙◌}
+use mathlib.Core.Path.{◌≡◌, refl, sym, ap, ◌∙◌}
 use Rattle.std.specs.Prelude.{Result, Ok, Err}
 use mathlib.Core.List.{List, [], ◌∷◌}
 use Prim.Native.Nat.{ℕ, zero, suc, ◌/◌, ◌%◌, ◌≤◌, ◌<◌}
@@ -9,18 +9,18 @@ use lib.Ieee.{Float, nan}
 use Rattle.rule.specs.Lists.{for_each}
 use Rattle.rule.specs.declared.Refusal.{Refusal}
 use Rattle.rule.specs.Refusal.{number_of}
-use Rattle.rule.specs.Answer.{answered, refusal_in}
-use Rattle.rule.specs.Order.{decided, if_passed}
+use Rattle.rule.specs.Answer.{refused, gives, answered, refusal_in}
+use Rattle.rule.specs.Order.{first_failed, decided, if_passed}
 use Rattle.rule.proofs.Lists.{past_end}
 use Rattle.rule.proofs.Order.{decided-gives, decided-refused, kept}
 use Rattle.rule.proofs.Views.{number_above_0}
 use Rattle.numbers.specs.Constants.{zero'}
 use Rattle.sheet.specs.Marks.{points}
 use Rattle.sheet.specs.declared.marks.Side.{Side}
-use Rattle.linalg.specs.Normalize.{similarity_of, matrix_of, normalized_list, normalize_answer, Normalizing}
+use Rattle.linalg.specs.Normalize.{similarity_of, matrix_of, normalize_tests, normalize_answer}
 use Rattle.linalg.specs.declared.Change.{Change}
 use Rattle.linalg.specs.declared.Normalized.{Normalized}
-use Rattle.probe.specs.Plain.{no_matrix, Written, MatrixEntry}
+use Rattle.probe.specs.Plain.{no_matrix}
 use Rattle.linalg.specs.declared.Row.{Row}
 use Rattle.probe.specs.Flat.{entry_of}
 
@@ -72,31 +72,28 @@ number_decided : {A : Type 0} (r : Result A Refusal) (k : ℕ) (a : A) → answe
 number_decided (Ok b) k a h = sym (decided-gives k h).0
 number_decided (Err e) k a h = (decided-refused k a h).0
 
-module _ {l entry exit : List Float} {s t : Side} (side : s ≡ t) where
-  of_side : {answer : Result Normalized Refusal} → Normalizing l s entry answer exit → Normalizing l t entry answer exit
-  of_side {answer} n = subst (λ u. Normalizing l u entry answer exit) side n
+-- what normalising answers, by its tests: the number, and the entry at a place
+module _ (l : List Float) (side : Side) (room : ℕ) where
+  abbrev failed : ℕ
+  failed = first_failed (normalize_tests l side room)
 
-  pub written : {answer : Result Normalized Refusal} → Normalizing l s entry answer exit → Written l t entry (refusal_in answer) exit
+  abbrev matrix : List Row
+  matrix = if_passed failed (matrix_of (similarity_of (points side l))) no_matrix
+
+  pub refusal_told : (answer : Result Normalized Refusal) → answered answer ≡ normalize_answer l side room → refusal_in answer ≡ failed
   unfolding normalize_answer
-  written {answer} n =
-      let m = of_side n in
-      let number = number_decided answer _ _ m.told in
-      record { number = number; list = m.list ∙ ap (λ k. if_passed k (normalized_list (similarity_of (points t l)) (points t l) entry) entry) (sym number) }
+  refusal_told answer h = number_decided answer _ _ h
 
   module _ (place : ℕ) where
-    pub entry_beyond : {answer : Result Normalized Refusal} {r : Float} → Normalizing l s entry answer exit → 9 ≤ place → r ≡ nan → MatrixEntry l t entry place r exit
-    entry_beyond {answer} n h e = record { refusal = refusal_in answer; left = written n; cell = e ∙ past_both (refusal_in answer) (similarity_of (points t l)) place h }
+    pub entry_beyond : 9 ≤ place → nan ≡ entry_of place matrix
+    entry_beyond h = past_both failed (similarity_of (points side l)) place h
 
-    pub entry_inside : {answer : Normalized} → Normalizing l s entry (Ok answer) exit → place < 9 → MatrixEntry l t entry place (in_rows answer.matrix place) exit
+    pub entry_inside : {a : Normalized} → place < 9 → gives a ≡ normalize_answer l side room → in_rows a.matrix place ≡ entry_of place matrix
     unfolding normalize_answer if_passed
-    entry_inside n h =
-        let is = (decided-gives _ (of_side n).told).1 in
-        record { refusal = 0; left = written n; cell = ap (λ a. in_rows a.matrix place) is ∙ of_change (similarity_of (points t l)) place h }
+    entry_inside h e = let gave = decided-gives _ e in rw (gave.0) (ap (λ a. in_rows a.matrix place) gave.1 ∙ of_change (similarity_of (points side l)) place h)
 
-    pub entry_refused : {e : Refusal} → Normalizing l s entry (Err e) exit → place < 9 → MatrixEntry l t entry place zero' exit
-    entry_refused {e} n h =
-        record {
-          refusal = number_of e;
-          left = written n;
-          cell = zero_inside place h ∙ ap (entry_of place) (kept (number_of e) (matrix_of (similarity_of (points t l))) no_matrix (number_above_0 e));
-        }
+    pub entry_refused : (e : Refusal) → place < 9 → refused (number_of e) ≡ normalize_answer l side room → zero' ≡ entry_of place matrix
+    unfolding normalize_answer
+    entry_refused e h f =
+        let g = (decided-refused _ _ f).0 in
+        rw (← g) (zero_inside place h ∙ ap (entry_of place) (kept (number_of e) (matrix_of (similarity_of (points side l))) no_matrix (number_above_0 e)))

@@ -1,11 +1,9 @@
 -- Answers as plain numbers, for a caller in C or Rust: the refusal's number, how many values, and the value at a place.
-use Rattle.std.specs.Prelude.{Bool, true, false, List, [], ◌∷◌, ℕ, zero, suc, length, get_or, Float}
+use Rattle.std.specs.Prelude.{Bool, true, false, List, [], ◌∷◌, ℕ, length, get_or, Float}
 use Rattle.std.specs.Float.{nan}
 use Rattle.rule.specs.Answer.{Answer, refused, gives}
 use Rattle.rule.specs.Lists.{for_each}
 use Rattle.numbers.specs.Measure.{Measure, beyond, distance}
-use Rattle.sheet.specs.declared.marks.Side.{Side}
-use Rattle.sheet.specs.declared.marks.Side.TheVariants.{Sheet, Pixel}
 use Rattle.sheet.specs.declared.model.Projection.{Projection}
 use Rattle.linalg.specs.declared.Row.{Row}
 
@@ -41,11 +39,6 @@ abbrev pub told_of : Answer Bool → ℕ
 told_of (refused k) = k
 told_of (gives false) = 0
 told_of (gives true) = 1
-
--- a side by number: 0 is the sheet's, any other the pixels'
-abbrev pub side_of : ℕ → Side
-side_of zero = Sheet
-side_of (suc k) = Pixel
 
 -- s, u or v; a NaN past them
 abbrev pub part_of : ℕ → Projection → Float

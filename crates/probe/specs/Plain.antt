@@ -37,9 +37,8 @@ no_matrix =
 
 -- the same, with the matrix's entry at a place instead of the number
 pub record MatrixEntry (l : List Float) (side : Side) (entry : List Float) (place : ℕ) (answer : Float) (exit : List Float) : Type 0 where
-  pub refusal : ℕ
-  pub left : Written l side entry refusal exit
-  pub cell : answer ≡ entry_of place (if_passed refusal (matrix_of (similarity_of (points side l))) no_matrix)
+  pub list : exit ≡ if_passed (first_failed (normalize_tests l side (length entry))) (normalized_list (similarity_of (points side l)) (points side l) entry) entry
+  pub cell : answer ≡ entry_of place (if_passed (first_failed (normalize_tests l side (length entry))) (matrix_of (similarity_of (points side l))) no_matrix)
 
 -- what the rows' entry answers, by its number, and leaves in the lent list
 pub record RowsTold (l entry : List Float) (refusal : ℕ) (exit : List Float) : Type 0 where

@@ -2,30 +2,27 @@
 // model and a mark as plain numbers.
 ghost use Rattle.std.specs.Prelude.{◌≡◌};
 ghost use Rattle.rule.specs.Answer.{told, gives};
+ghost use Rattle.sheet.specs.Marks.{side_of};
 ghost use Rattle.sheet.specs.Distance.{projection_of, measure_of, distance_answer, measured};
 ghost use Rattle.line.specs.Collinear.{collinear_answer};
-ghost use Rattle.probe.specs.Flat.{measure_told, value_of, told_of, side_of, part_of};
+ghost use Rattle.probe.specs.Flat.{measure_told, value_of, told_of, part_of};
 ghost use Rattle.probe.specs.Plain.{model_of, mark_of, point_of, Written, MatrixEntry, RowsTold};
 
 use crate::{none, place_of};
 use rule::Refusal;
 use sheet::{Mark, Model, Point, Points, Side};
 
-fn side_of(side: u32) -> Side
-    ensures { result ≡ side_of side }
-{
-    if side == 0 { Side::Sheet } else { Side::Pixel }
-}
-
+#[tactic(auto, using(crate::proofs::Cells::refusal_told))]
 #[unsafe(no_mangle)]
 pub extern "C" fn probe_normalize_points_2d(marks: &[f64], side: u32, points: &mut [f64]) -> u32
     ensures { Written marks.now (side_of side) points.old result points.new }
 {
-    let side = side_of(side);
+    let side = Side::from(u64::from(side));
     rule::number(linalg::normalize_points_2d(Points { marks, side }, points))
 }
 
 // The same call, for the entry of the matrix at `place`, row by row: 0 where it is refused.
+#[tactic(auto, using(crate::proofs::Cells::entry_beyond, crate::proofs::Cells::entry_inside, crate::proofs::Cells::entry_refused))]
 #[unsafe(no_mangle)]
 pub extern "C" fn probe_normalize_matrix(
     marks: &[f64],
@@ -35,7 +32,7 @@ pub extern "C" fn probe_normalize_matrix(
 ) -> f64
     ensures { MatrixEntry marks.now (side_of side) points.old place result points.new }
 {
-    let side = side_of(side);
+    let side = Side::from(u64::from(side));
     let answer = linalg::normalize_points_2d(Points { marks, side }, points);
     if place >= 9 {
         return none();
@@ -53,10 +50,10 @@ pub extern "C" fn probe_normalize_matrix(
 pub extern "C" fn probe_points_are_collinear(marks: &[f64], side: u32) -> u32
     ensures { result ≡ told_of (collinear_answer marks.now (side_of side)) }
 {
-    let side = side_of(side);
+    let side = Side::from(u64::from(side));
     match line::points_are_collinear(Points { marks, side }) {
         Ok(yes) => u32::from(yes),
-        Err(refusal) => refusal as u32,
+        Err(refusal) => u32::from(refusal),
     }
 }
 
@@ -77,7 +74,7 @@ fn told(answer: Result<Option<f64>, Refusal>) -> u32
     match answer {
         Ok(Some(_)) => 0,
         Ok(None) => BEYOND,
-        Err(refusal) => refusal as u32,
+        Err(refusal) => u32::from(refusal),
     }
 }
 

@@ -15,14 +15,6 @@ fn input(record: &[u8]) -> [f64; 20] {
     array::from_fn(|i| fields::double_at(record, 5 + i))
 }
 
-fn side(record: &[u8]) -> Side {
-    if fields::long_at(record, 1) == 0 {
-        Side::Sheet
-    } else {
-        Side::Pixel
-    }
-}
-
 // Whether each entry answers what a record says.
 
 // Numbers of the answer, whose words start at `at`.
@@ -41,7 +33,7 @@ fn normalising_agrees(record: &[u8]) -> bool {
     let all = input(record);
     let points = Points {
         marks: &all[..len as usize],
-        side: side(record),
+        side: Side::from(fields::long_at(record, 1)),
     };
     let mut lent = [7.0; 91];
     let lent = &mut lent[..room as usize];
@@ -67,7 +59,7 @@ fn collinear_agrees(record: &[u8]) -> bool {
     let all = input(record);
     let points = Points {
         marks: &all[..len as usize],
-        side: side(record),
+        side: Side::from(fields::long_at(record, 1)),
     };
     let refusal = fields::long_at(record, 4);
     match line::points_are_collinear(points) {

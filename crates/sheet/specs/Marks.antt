@@ -1,5 +1,5 @@
 -- Document 01, 'Marks': a list of numbers, four to a mark; the points of a side; and the tests that every entry makes of the list.
-use Rattle.std.specs.Prelude.{Bool, not, ◌||◌, List, [], ◌∷◌, map, ℕ, ◌%◌, ltb, eqb, length, get_or, Float}
+use Rattle.std.specs.Prelude.{Bool, not, ◌||◌, List, [], ◌∷◌, map, ℕ, zero, suc, ◌%◌, ltb, eqb, length, get_or, Float}
 use Rattle.rule.specs.Refusal.{SHAPE, POINT, FEW}
 use Rattle.rule.specs.Order.{Test}
 use Rattle.rule.specs.Lists.{every}
@@ -37,6 +37,11 @@ unfoldable pub mark_at : List Float → ℕ → Mark
 mark_at l i = get_or (marks_of l) i no_mark
 
 -- ---- one side
+
+-- a side by number: 0 is the sheet's, any other the pixels'
+abbrev pub side_of : ℕ → Side
+side_of zero = Sheet
+side_of (suc k) = Pixel
 
 unfoldable pub point_of : Side → Mark → Point
 point_of Sheet m = record { x = m.x; y = m.y }

@@ -4,7 +4,7 @@ ghost use Rattle.rule.specs.Answer.{refusal_in};
 ghost use Rattle.rule.specs.Order.{first_failed};
 ghost use Rattle.numbers.specs.Constants.{farthest};
 ghost use Rattle.numbers.specs.Finite.{within};
-ghost use Rattle.sheet.specs.Marks.{marks_of, mark_of, mark_numbers, mark_at, point_of, point_at, points, squared_apart, all_within, shape_tests, marks_tests};
+ghost use Rattle.sheet.specs.Marks.{marks_of, mark_of, mark_numbers, mark_at, side_of, point_of, point_at, points, squared_apart, all_within, shape_tests, marks_tests};
 
 use rule::Refusal;
 
@@ -47,6 +47,15 @@ pub struct Point {
 pub enum Side {
     Sheet,
     Pixel,
+}
+
+// As C and files number them: 0 is the sheet's, every other number the pixel's.
+impl From<u64> for Side {
+    ghost from_gives = { λ n side. side ≡ side_of n };
+
+    fn from(n: u64) -> Side {
+        if n == 0 { Side::Sheet } else { Side::Pixel }
+    }
 }
 
 // How many marks: those that the list has in full.
