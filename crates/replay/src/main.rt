@@ -11,11 +11,9 @@ use tally::{Answers, Kind};
 // Whether each leaf answers what a record says.
 
 fn root_agrees(record: &[u8]) -> bool {
-    let refusal = fields::long_at(record, 2);
-    match root::root(fields::double_at(record, 1)) {
-        Ok(y) => refusal == 0 && tally::same(y, fields::double_at(record, 3)),
-        Err(e) => refusal == e as u64,
-    }
+    let answer = root::root(fields::double_at(record, 1));
+    fields::long_at(record, 2) == u64::from(rule::number(answer))
+        && answer.map_or(true, |y| tally::same(y, fields::double_at(record, 3)))
 }
 
 fn quadratic_agrees(record: &[u8]) -> bool {
@@ -32,7 +30,7 @@ fn quadratic_agrees(record: &[u8]) -> bool {
         Ok(Quadratic::Two(x, y)) => count == 2
             && tally::same(x, first)
             && tally::same(y, fields::double_at(record, 6)),
-        Err(e) => count == e as u64,
+        Err(e) => count == u64::from(u32::from(e)),
     }
 }
 
