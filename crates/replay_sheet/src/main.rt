@@ -6,82 +6,74 @@
 
 ghost use Rattle.std.specs.Prelude.{◌<◌};
 
+use linalg::Normalized;
+use rule::Refusal;
 use sheet::{Mark, Model, Points, Side};
 use std::{array, io};
 use tally::{Answers, Kind};
 
-// The input's numbers; word 2 says how many count.
-fn input(record: &[u8]) -> [f64; 20] {
-    array::from_fn(|i| fields::double_at(record, 5 + i))
-}
-
-// Whether each entry answers what a record says.
-
-// Numbers of the answer, whose words start at `at`.
+// Numbers of a record, whose words start at `at`.
 fn numbers_agree(record: &[u8], at: usize, numbers: &[f64]) -> bool
     requires { at < 128 }
 {
     numbers.iter().enumerate().all(|(i, x)| tally::same(*x, fields::double_at(record, at + i)))
 }
 
-fn normalising_agrees(record: &[u8]) -> bool {
+// Whether an entry answers what a record says: word 4 is the number of its refusal, or 0. `answer` says
+// whether what it gives is the record's; of a refused call nothing is given, and the words are zeros.
+fn answer_agrees(record: &[u8], answer: Result<bool, Refusal>) -> bool {
+    let given = match answer {
+        Ok(right) => right,
+        Err(_) => fields::zero_bytes(record, 8 * 116, 8 * 125),
+    };
+    given && fields::long_at(record, 4) == u64::from(rule::number(answer))
+}
+
+// An entry over marks: word 2 says how many numbers these are, and word 3 how long the lent list is,
+// which holds 7.0 at each place before the call, and after it the words from 25 on.
+fn call_agrees<F: Fn(Points, &mut [f64]) -> Result<bool, Refusal>>(record: &[u8], entry: F) -> bool
+    requires { F.IsAlwaysCallable entry }
+{
     let len = fields::long_at(record, 2);
     let room = fields::long_at(record, 3);
     if len > 20 || room > 91 {
         return false;
     }
-    let all = input(record);
+    let all: [f64; 20] = array::from_fn(|i| fields::double_at(record, 5 + i));
     let points = Points {
         marks: &all[..len as usize],
         side: Side::from(fields::long_at(record, 1)),
     };
     let mut lent = [7.0; 91];
     let lent = &mut lent[..room as usize];
-    let refusal = fields::long_at(record, 4);
-    let matrix = match linalg::normalize_points_2d(points, lent) {
-        Ok(n) => {
-            refusal == 0
-                && numbers_agree(record, 116, &n.matrix[0].cells)
-                && numbers_agree(record, 119, &n.matrix[1].cells)
-                && numbers_agree(record, 122, &n.matrix[2].cells)
-        }
-        // No matrix: zeros.
-        Err(e) => refusal == e as u64 && fields::zero_bytes(record, 8 * 116, 8 * 125),
-    };
-    matrix && numbers_agree(record, 25, lent)
+    let answer = entry(points, lent);
+    answer_agrees(record, answer) && numbers_agree(record, 25, lent)
+}
+
+fn matrix_agrees(record: &[u8], n: Normalized) -> bool {
+    numbers_agree(record, 116, &n.matrix[0].cells)
+        && numbers_agree(record, 119, &n.matrix[1].cells)
+        && numbers_agree(record, 122, &n.matrix[2].cells)
+}
+
+fn normalising_agrees(record: &[u8]) -> bool {
+    call_agrees(record, |points, lent| {
+        linalg::normalize_points_2d(points, lent).map(|n| matrix_agrees(record, n))
+    })
 }
 
 fn collinear_agrees(record: &[u8]) -> bool {
-    let len = fields::long_at(record, 2);
-    if len > 20 {
-        return false;
-    }
-    let all = input(record);
-    let points = Points {
-        marks: &all[..len as usize],
-        side: Side::from(fields::long_at(record, 1)),
-    };
-    let refusal = fields::long_at(record, 4);
-    match line::points_are_collinear(points) {
-        Ok(yes) => refusal == 0 && fields::long_at(record, 116) == yes as u64,
-        Err(e) => refusal == e as u64,
-    }
+    let told = fields::long_at(record, 116);
+    call_agrees(record, |points, _| {
+        line::points_are_collinear(points).map(|yes| told == u64::from(yes))
+    })
 }
 
 fn rows_agree(record: &[u8]) -> bool {
-    let len = fields::long_at(record, 2);
-    let room = fields::long_at(record, 3);
-    if len > 20 || room > 91 {
-        return false;
-    }
-    let all = input(record);
-    let mut lent = [7.0; 91];
-    let lent = &mut lent[..room as usize];
-    let refusal = match homography::dlt_rows(&all[..len as usize], lent) {
-        Ok(()) => 0,
-        Err(e) => e as u64,
-    };
-    refusal == fields::long_at(record, 4) && numbers_agree(record, 25, lent)
+    call_agrees(
+        record,
+        |points, lent| homography::dlt_rows(points.marks, lent).map(|()| true),
+    )
 }
 
 // A distance's input: the model, then the mark, then the ratio.
@@ -94,17 +86,21 @@ fn mark(record: &[u8]) -> Mark {
 }
 
 // Word 116 is the distance; where the mark is beyond it is 0, and word 117 is 1.
-fn distance_agrees(record: &[u8]) -> bool {
-    let refusal = fields::long_at(record, 4);
+fn measure_agrees(record: &[u8], measured: Option<f64>) -> bool {
     let beyond = fields::long_at(record, 117);
-    let ratio = fields::double_at(record, 18);
-    match sheet::distance(model(record), mark(record), ratio) {
-        Ok(Some(d)) => {
-            refusal == 0 && beyond == 0 && tally::same(d, fields::double_at(record, 116))
-        }
-        Ok(None) => refusal == 0 && beyond == 1 && fields::long_at(record, 116) == 0,
-        Err(e) => refusal == e as u64,
+    match measured {
+        Some(d) => beyond == 0 && tally::same(d, fields::double_at(record, 116)),
+        None => beyond == 1 && fields::long_at(record, 116) == 0,
     }
+}
+
+fn distance_agrees(record: &[u8]) -> bool {
+    let ratio = fields::double_at(record, 18);
+    let answer = sheet::distance(model(record), mark(record), ratio);
+    answer_agrees(
+        record,
+        answer.map(|measured| measure_agrees(record, measured)),
+    )
 }
 
 // The entry of each kind of record.
