@@ -9,6 +9,7 @@ use std::io::Read;
 
 // Reads until the buffer is full or the reader at its end, and answers how many bytes at the buffer's
 // front are of the reader. A read that fails is the end.
+#[tactic(auto, using(crate::proofs::Parts::read_more))]
 pub fn read_full<F: Read>(file: &mut F, buffer: &mut [u8]) -> usize
     ensures bound { result ≤ length buffer.new }
     ensures bytes { Consumes (F.remaining file.old) (F.remaining file.new) (take result buffer.new) }
