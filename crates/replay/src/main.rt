@@ -5,6 +5,7 @@
 #![tactic(auto)]
 
 use numbers::Quadratic;
+use std::fs::File;
 use std::{array, io};
 use tally::{Answers, Kind};
 
@@ -79,6 +80,7 @@ impl Answers for Leaves {
 }
 
 fn main(rt: HostRuntime) -> io::Result<()> {
-    let names = ["roots", "quadratics", "ranks", "finite lists"];
-    tally::replay::<Leaves, _>(&rt, "answers.bin", &mut [0; 96], names)
+    let mut file = File::open(&rt, "answers.bin")?;
+    let scores = tally::replay_all::<Leaves, _>(&mut file, &mut [0; 96]);
+    scores.print(&rt, ["roots", "quadratics", "ranks", "finite lists"])
 }

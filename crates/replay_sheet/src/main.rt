@@ -9,6 +9,7 @@ ghost use Rattle.std.specs.Prelude.{◌<◌};
 use linalg::Normalized;
 use rule::Refusal;
 use sheet::{Mark, Model, Points, Side};
+use std::fs::File;
 use std::{array, io};
 use tally::{Answers, Kind};
 
@@ -121,6 +122,7 @@ impl Answers for Entries {
 }
 
 fn main(rt: HostRuntime) -> io::Result<()> {
-    let names = ["normalisings", "collinear", "rows", "distances"];
-    tally::replay::<Entries, _>(&rt, "sheets.bin", &mut [0; 1024], names)
+    let mut file = File::open(&rt, "sheets.bin")?;
+    let scores = tally::replay_all::<Entries, _>(&mut file, &mut [0; 1024]);
+    scores.print(&rt, ["normalisings", "collinear", "rows", "distances"])
 }

@@ -9,7 +9,6 @@ ghost use Rattle.std.specs.Io.KnownBytes.{Consumes};
 ghost use Rattle.tally.specs.Tally.{one_more, score_after, no_scores, scores_after, Decodes, Replayed};
 
 use std::error::Error;
-use std::fs::{File, Files};
 use std::io::Read;
 use std::{fmt, io};
 
@@ -163,15 +162,4 @@ pub fn replay_all<A: Answers, R: Read>(file: &mut R, buffer: &mut [u8]) -> Score
         };
     }
     scores
-}
-
-// A program's whole run: replays the file's records and prints their scores.
-pub fn replay<A: Answers, S: Files + Print>(
-    rt: &S,
-    path: &str,
-    buffer: &mut [u8],
-    names: [&str; 4],
-) -> io::Result<()> {
-    let mut file = File::open(rt, path)?;
-    replay_all::<A, _>(&mut file, buffer).print(rt, names)
 }
