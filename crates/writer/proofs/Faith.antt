@@ -9,7 +9,7 @@ use lib.Dec.{T, ltb, eqb, eqb→eq}
 use lib.ListN.{length, take, drop}
 use Rattle.rule.specs.Refusal.{ROOM}
 use Rattle.rule.specs.Answer.{refused, gives}
-use Rattle.rule.specs.Order.{first_failed, decided}
+use Rattle.rule.specs.Order.{first_failed, decided, if_passed}
 use Rattle.rule.specs.Lists.{filled}
 use Rattle.rule.proofs.Tests.{is_test}
 use Rattle.rule.proofs.Order.{numbered, all_passed, numbered_append, first_passed, decided-none, decided_some}
@@ -18,7 +18,7 @@ use Rattle.fields.specs.Fields.{all_bytes}
 use Rattle.fields.specs.Packing.{size_of, unpacked, packed}
 use Rattle.fields.proofs.Packing.{Fit, packed_size, unpacked-packed, unpacked-fit, packed-unpacked}
 use Rattle.writer.specs.Format.{Format, sized, reads, as_numbers, numbers_read, record_of, writer_answer, written, Faithful}
-use Rattle.writer.proofs.Answers.{answer_by, accepted, by_number, turned_down, answer_is, exit_is}
+use Rattle.writer.proofs.Order.{answer_by, accepted, by_number, turned_down, answer_is}
 
 -- what a format keeps
 pub record Laws {N A : Type 0} (f : Format N A) : Type 0 where
@@ -78,8 +78,10 @@ module _ {N A : Type 0} (f : Format N A) (laws : Laws f) where
 
   wrote : (n : N) (entry : List ℕ) → first_failed (f.asks n ++ f.tests (f.fields n)) ≡ 0 → size ≤ length entry
       → (writer_answer f n entry ≡ 0) × (written f n entry ≡ filled (record_of f n) entry)
+  unfolding written if_passed
   wrote n entry passed fits =
-      (answer_is f n entry (above n) ∙ rw (passed, le-ltb (length entry) size fits), exit_is f n entry (above n) ∙ rw (passed, le-ltb (length entry) size fits))
+      let none : writer_answer f n entry ≡ 0 = answer_is f n entry (above n) ∙ rw (passed, le-ltb (length entry) size fits) in
+      (none, ap (λ k. if_passed k (filled (record_of f n) entry) entry) none)
 
   back_read : (n : N) (entry : List ℕ) → f.Representable n → writer_answer f n entry ≡ 0 → numbers_read f (take size (written f n entry)) ≡ gives n
   back_read n entry held e =

@@ -1,7 +1,7 @@
-pub mod Answers
 pub mod Bits
 pub mod Faith
 pub mod OfMark
 pub mod OfOptions
 pub mod OfTrial
+pub mod Order
 pub mod Readers

@@ -19,8 +19,8 @@ use Rattle.fields.specs.Fields.{double_bytes}
 use Rattle.fields.specs.Packing.{size_of, packed}
 use Rattle.fields.proofs.Packing.{Fit, none, fit_length}
 use Rattle.writer.specs.Formats.{mark_layout, mark_from, MarkRepresentable, mark_format}
-use Rattle.writer.specs.Format.{record_of, writer_answer, written, Faithful}
-use Rattle.writer.proofs.Answers.{answer_by, exit_by, answer_is, exit_is}
+use Rattle.writer.specs.Format.{record_of, writer_answer, Faithful}
+use Rattle.writer.proofs.Order.{answer_by, answer_is}
 use Rattle.std.proofs.lemmas.Bool.{and_parts}
 use Rattle.writer.proofs.Bits.{numbers_back, fields_fit, bits_again}
 use Rattle.writer.proofs.Faith.{Laws, faithful}
@@ -41,7 +41,7 @@ module _ (m : Mark) where
   unfolding marks_tests shape mark_numbers
   one_mark = sym (passes (shape (mark_numbers m)) (point (mark_numbers m) ∷ []) refl)
 
-  pub packs : for_each double_bytes (mark_numbers m) ≡ record_of mark_format m
+  pub packs : record_of mark_format m ≡ for_each double_bytes (mark_numbers m)
   unfolding record_of mark_format mark_layout packed double_bytes for_each mark_numbers
   packs = refl
 
@@ -56,9 +56,6 @@ module _ (m : Mark) where
 
     pub mark_answer : writer_answer mark_format m entry ≡ answer_by (first_failed (marks_tests (mark_numbers m))) 32 (length entry)
     mark_answer = answer_is mark_format m entry above ∙ rw (here, mark_size)
-
-    pub mark_exit : written mark_format m entry ≡ exit_by (first_failed (marks_tests (mark_numbers m))) 32 (for_each double_bytes (mark_numbers m)) entry
-    mark_exit = exit_is mark_format m entry above ∙ rw (here, mark_size, packs)
 
 -- ---- what the format keeps
 

@@ -4,7 +4,7 @@ use mathlib.Core.Bool.{Bool, true, false, not, cond, ◌&&◌}
 use mathlib.Core.List.{List, [], ◌∷◌, ◌++◌}
 use Prim.Native.Nat.{ℕ, zero, suc, ◌^◌, ◌≤◌, ◌<◌}
 use native.Mathlib.Omega.{arith}
-use borrow.Author.Tests.{not-false, le-ltb}
+use borrow.Author.Tests.{not-false}
 use borrow.Rule.Slice.PartMut.{mid_of, put_mid}
 use lib.Dec.{T, leb, eqb, leb→le, eqb→eq}
 use lib.ListN.{length, get_or, drop}
@@ -13,7 +13,7 @@ use lib.Ieee.Bits.{is_true, of_bits-to_bits, to_bits-lt, to_bits-of_bits}
 use native.Mathlib.Nat.{mod-eq_of_lt}
 use lib.Ieee.{binary64, fits, lt, le, of_bits}
 use Rattle.rule.specs.Refusal.{RECORD}
-use Rattle.rule.specs.Answer.{refused, gives}
+use Rattle.rule.specs.Answer.{Answer, refused, gives}
 use Rattle.rule.specs.Order.{first_failed}
 use Rattle.rule.specs.Lists.{for_each, filled}
 use Rattle.rule.proofs.Tests.{and_true, is_test}
@@ -30,9 +30,9 @@ use Rattle.records.specs.Options.{mark_answer, short_layout, options_layout, opt
 use Rattle.records.specs.declared.options.RansacOptions.{RansacOptions}
 use Rattle.records.proofs.Placed.{options_size}
 use Rattle.records.proofs.Formed.{options_above_0}
-use Rattle.writer.specs.Format.{record_of, writer_answer, written, Faithful}
+use Rattle.writer.specs.Format.{record_of, writer_answer, Faithful}
 use Rattle.writer.specs.Formats.{OptionNumbers, options_numbers, options_fields, OptionsRepresentable, options_asked, options_format}
-use Rattle.writer.proofs.Answers.{answer_by, exit_by, answer_is, exit_is, laid_copy}
+use Rattle.writer.proofs.Order.{answer_by, answer_is}
 use Rattle.std.proofs.lemmas.Bool.{and_parts}
 use Rattle.writer.proofs.Bits.{finite_no_nan, above_no_nan}
 use Rattle.writer.proofs.Faith.{Laws, faithful}
@@ -43,53 +43,46 @@ format_size : size_of options_format.layout ≡ 40
 unfolding options_format
 format_size = options_size
 
--- the options of plain numbers
-abbrev pub options_with : OptionNumbers → RansacOptions
-options_with n =
+-- the options of plain numbers, but for the flag
+abbrev pub options_with : OptionNumbers → Bool → RansacOptions
+options_with n refit =
     record {
       thresh = n.thresh;
       confidence = n.confidence;
       max_iters = n.max_iters;
       min_inliers = n.min_inliers;
-      refit = eqb n.refit_mark 1;
+      refit = refit;
       ratio = n.ratio;
     }
+
+-- the number of the tests: the mark's, or of the options with the flag that it stands for
+abbrev pub by_mark : OptionNumbers → Answer Bool → ℕ
+by_mark n (gives refit) = first_failed (options_tests (options_with n refit))
+by_mark n (refused k) = k
 
 above : (fields : List ℕ) → T (numbered (options_asked fields))
 unfolding options_asked numbered
 above fields = options_above_0 (options_from fields)
 
 module _ (n : OptionNumbers) (entry : List ℕ) (p : fits binary64 n.thresh ≡ true) (q : fits binary64 n.confidence ≡ true) (r : fits binary64 n.ratio ≡ true) where
-  from_fields : options_from (options_fields n) ≡ options_with n
+  from_fields : options_from (options_fields n) ≡ options_with n (eqb n.refit_mark 1)
   unfolding options_from options_fields ratio_from
   from_fields = rw (of_bits-to_bits binary64 n.thresh (rw p tt), of_bits-to_bits binary64 n.confidence (rw q tt), of_bits-to_bits binary64 n.ratio (rw r tt))
 
-  -- the number of the tests, the mark's first
-  abbrev checked : ℕ
-  checked = cond (not (leb n.refit_mark 1)) RECORD (first_failed (options_tests (options_with n)))
-
-  here : first_failed (options_format.asks n ++ options_format.tests (options_format.fields n)) ≡ checked
+  here : first_failed (options_format.asks n ++ options_format.tests (options_format.fields n)) ≡ by_mark n (mark_answer n.refit_mark)
   unfolding options_format options_asked options_sound options_fields first_failed
-  here = rw (and_true (leb n.refit_mark 1), from_fields)
+  here = rw (and_true (leb n.refit_mark 1), from_fields) (go (leb n.refit_mark 1))
+    where
+      go : (small : Bool) → cond (not small) RECORD (first_failed (options_tests (options_with n (eqb n.refit_mark 1)))) ≡ by_mark n (cond small (gives (eqb n.refit_mark 1)) (refused RECORD))
+      go true = refl
+      go false = refl
 
   above_there : T (numbered (options_format.asks n ++ options_format.tests (options_format.fields n)))
   unfolding options_format
   above_there = above (options_fields n)
 
-  pub options_answered : writer_answer options_format n entry ≡ answer_by checked 40 (length entry)
+  pub options_answered : writer_answer options_format n entry ≡ answer_by (by_mark n (mark_answer n.refit_mark)) 40 (length entry)
   options_answered = answer_is options_format n entry above_there ∙ rw (here, format_size)
-
-  pub options_exit : written options_format n entry ≡ exit_by checked 40 (record_of options_format n) entry
-  options_exit = exit_is options_format n entry above_there ∙ rw (here, format_size)
-
-  -- the record is left, where the tests passed and there is room
-  pub options_left : {mark : Bool} → gives mark ≡ mark_answer n.refit_mark → 0 ≡ first_failed (options_tests (record (options_with n) { refit = mark })) → 40 ≤ length entry
-      → written options_format n entry ≡ filled (record_of options_format n) entry
-  options_left {mark} e h room = options_exit ∙ rw (passed (leb n.refit_mark 1) e, le-ltb (length entry) 40 room)
-    where
-      passed : (small : Bool) → gives mark ≡ cond small (gives (eqb n.refit_mark 1)) (refused RECORD) → cond (not small) RECORD (first_failed (options_tests (options_with n))) ≡ 0
-      passed true g = let same : mark ≡ eqb n.refit_mark 1 = cc in sym (h ∙ ap (λ set. first_failed (options_tests (record (options_with n) { refit = set }))) same)
-      passed false g = cc
 
 -- the mark and seven zero bytes, as they are copied
 mark_bytes : (mark : ℕ) → mark < 256 → mark ∷ 0 ∷ 0 ∷ 0 ∷ 0 ∷ 0 ∷ 0 ∷ 0 ∷ [] ≡ bytes_of 1 mark ++ bytes_of 7 0
@@ -106,14 +99,14 @@ module _ (n : OptionNumbers) (entry : List ℕ) where
   -- the four parts, one after the other
   pub options_laid : 40 ≤ length entry → n.refit_mark < 256 → {a b c d : List ℕ} → a ≡ filled doubles (mid_of 0 16 entry)
       → b ≡ filled words (mid_of 16 8 (put_mid 0 16 entry a))
-      → c ≡ n.refit_mark ∷ 0 ∷ 0 ∷ 0 ∷ 0 ∷ 0 ∷ 0 ∷ 0 ∷ []
+      → c ≡ filled (n.refit_mark ∷ 0 ∷ 0 ∷ 0 ∷ 0 ∷ 0 ∷ 0 ∷ 0 ∷ []) (mid_of 24 8 (put_mid 16 8 (put_mid 0 16 entry a) b))
       → d ≡ filled (double_bytes n.ratio) (mid_of 32 8 (put_mid 24 8 (put_mid 16 8 (put_mid 0 16 entry a) b) c))
       → put_mid 32 8 (put_mid 24 8 (put_mid 16 8 (put_mid 0 16 entry a) b) c) d ≡ filled (record_of options_format n) entry
   unfolding bytes_of double_bytes for_each record_of options_format short_layout options_layout options_fields packed
-  options_laid room byte e f g h =
+  options_laid room byte {a} {b} e f g h =
       let one = laid_more entry (laid_none entry) (omega arith) 0 16 doubles refl refl (omega arith) e in
       let two = laid_more entry one (omega arith) 16 24 words refl refl (omega arith) f in
-      let three = laid_copy entry two (omega arith) 24 32 (bytes_of 1 n.refit_mark ++ bytes_of 7 0) refl refl (omega arith) (g ∙ mark_bytes n.refit_mark byte) in
+      let three = laid_more entry two (omega arith) 24 32 (bytes_of 1 n.refit_mark ++ bytes_of 7 0) refl refl (omega arith) (g ∙ ap (λ l. filled l (mid_of 24 8 (put_mid 16 8 (put_mid 0 16 entry a) b))) (mark_bytes n.refit_mark byte)) in
       let four = laid_more entry three (omega arith) 32 40 (double_bytes n.ratio) refl refl room h in
       laid_all entry four room
 

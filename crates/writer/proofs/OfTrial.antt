@@ -29,9 +29,9 @@ use Rattle.fields.proofs.Writing.{double_wide, laid_none, laid_more, laid_all}
 use Rattle.fields.proofs.Packing.{Fit, none, more, fit_length, fit-taken, fit-left, packed_even}
 use Rattle.records.specs.Trial.{trial_layout, fit_bits, refit_bits, model_from, marked, marks_formed, numbers_formed, doubles_formed, parts_formed, trial_sound, trial_from}
 use Rattle.records.proofs.Formed.{nine}
-use Rattle.writer.specs.Format.{record_of, writer_answer, written, Faithful}
+use Rattle.writer.specs.Format.{record_of, writer_answer, Faithful}
 use Rattle.writer.specs.Formats.{TrialNumbers, trial_numbers, trial_fields, nine_each, TrialRepresentable, trial_format}
-use Rattle.writer.proofs.Answers.{answer_by, exit_by, answer_is, exit_is, laid_copy}
+use Rattle.writer.proofs.Order.{answer_by, answer_is}
 use Rattle.std.proofs.lemmas.Bool.{and_parts}
 use Rattle.records.proofs.Bits.{by_places}
 use Rattle.writer.proofs.Bits.{numbers_back, fields_fit, bits_again, zeros, zero_numbers, zeros_again, bits-written}
@@ -117,9 +117,6 @@ module _ (n : TrialNumbers) (entry : List ℕ) (p : Doubles n.fit) (q : Doubles 
   pub trial_answered : writer_answer trial_format n entry ≡ answer_by (cond formed 0 RECORD) 152 (length entry)
   trial_answered = answer_is trial_format n entry above ∙ rw (here, trial_size)
 
-  pub trial_exit : written trial_format n entry ≡ exit_by (cond formed 0 RECORD) 152 (record_of trial_format n) entry
-  trial_exit = exit_is trial_format n entry above ∙ rw (here, trial_size)
-
 -- ---- the bytes
 
 doubles_wide : (l : List Float) → length l ≡ 9 → length (for_each double_bytes l) ≡ 72
@@ -144,7 +141,7 @@ module _ (n : TrialNumbers) (a : length n.fit ≡ 9) (b : length n.refit ≡ 9) 
   packs = rw (mod-eq_of_lt h, mod-eq_of_lt g, numbers-packed)
 
   -- the three parts, one after the other
-  pub trial_laid : (entry : List ℕ) → 152 ≤ length entry → {x y z : List ℕ} → x ≡ front → y ≡ filled (for_each double_bytes n.fit) (mid_of 8 72 (put_mid 0 8 entry x))
+  pub trial_laid : (entry : List ℕ) → 152 ≤ length entry → {x y z : List ℕ} → x ≡ filled front (mid_of 0 8 entry) → y ≡ filled (for_each double_bytes n.fit) (mid_of 8 72 (put_mid 0 8 entry x))
       → z ≡ filled (for_each double_bytes n.refit) (mid_of 80 72 (put_mid 8 72 (put_mid 0 8 entry x) y))
       → put_mid 80 72 (put_mid 8 72 (put_mid 0 8 entry x) y) z ≡ filled (record_of trial_format n) entry
   trial_laid entry room d e f =
@@ -154,7 +151,7 @@ module _ (n : TrialNumbers) (a : length n.fit ≡ 9) (b : length n.refit ≡ 9) 
       let all : length (front ++ for_each double_bytes n.fit ++ for_each double_bytes n.refit) ≡ 152 =
       length-append (front ++ for_each double_bytes n.fit) (for_each double_bytes n.refit) ∙ rw (both, j)
       in
-      let one = laid_copy entry (laid_none entry) (omega arith) 0 8 front refl refl (omega arith) d in
+      let one = laid_more entry (laid_none entry) (omega arith) 0 8 front refl refl (omega arith) d in
       let two = laid_more entry one (omega arith) 8 80 (for_each double_bytes n.fit) refl (rw i) (omega arith) e in
       let three = laid_more entry two (rw both (omega arith)) 80 152 (for_each double_bytes n.refit) both (rw j) room f in
       laid_all entry three (rw all room) ∙ ap (λ l. filled l entry) packs

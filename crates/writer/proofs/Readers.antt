@@ -167,7 +167,7 @@ module _ (l : List ℕ) (size : length l ≡ 32) where
 -- ---- a file of marks
 
 one_record : (m : Mark) → record_of mark_format m ≡ for_each double_bytes (mark_numbers m)
-one_record m = sym (packs m)
+one_record m = packs m
 
 records_are : (ms : List Mark) → for_each (record_of mark_format) ms ≡ for_each double_bytes (for_each mark_numbers ms)
 unfolding for_each

@@ -10,7 +10,7 @@ use rule::Refusal;
 
 // Writes the options' 40 bytes to the front of `out`; refused with 1 for a mark other than 0 or 1, 2, 3,
 // 4, 16 and 9 in that order, and nothing written.
-#[tactic(auto, using(crate::proofs::OfOptions::options_answered, crate::proofs::OfOptions::options_exit))]
+#[tactic(auto, using(crate::proofs::OfOptions::options_answered, crate::proofs::OfOptions::options_laid), unfolding(crate::specs::Format::written, rule::specs::Order::if_passed))]
 pub fn write_options(
     thresh: f64,
     confidence: f64,
@@ -37,7 +37,7 @@ pub fn write_options(
     fields::write_all(&[thresh, confidence], &mut out[0..16]);
     fields::write_all(&[max_iters, min_inliers], &mut out[16..24]);
     // The mark, and seven zero bytes.
-    out[24..32].copy_from_slice(&[refit_mark, 0, 0, 0, 0, 0, 0, 0]);
+    fields::lay(&mut out[24..32], &[refit_mark, 0, 0, 0, 0, 0, 0, 0]);
     ratio.put_to(&mut out[32..40]);
     Ok(())
 }

@@ -7,7 +7,7 @@ ghost use Rattle.writer.specs.Formats.{trial_format};
 use rule::Refusal;
 
 // Writes a trial's 152 bytes to the front of `out`; refused with 1 and 9 in that order and nothing written.
-#[tactic(auto, using(crate::proofs::OfTrial::trial_answered, crate::proofs::OfTrial::trial_exit, crate::proofs::OfTrial::trial_laid))]
+#[tactic(auto, using(crate::proofs::OfTrial::trial_answered, crate::proofs::OfTrial::trial_laid), unfolding(crate::specs::Format::written, rule::specs::Order::if_passed))]
 pub fn write_trial(
     fit_mark: u8,
     refit_mark: u8,
@@ -28,7 +28,7 @@ pub fn write_trial(
         return Err(Refusal::Room);
     }
     // The marks, and six zero bytes.
-    out[0..8].copy_from_slice(&[fit_mark, refit_mark, 0, 0, 0, 0, 0, 0]);
+    fields::lay(&mut out[0..8], &[fit_mark, refit_mark, 0, 0, 0, 0, 0, 0]);
     fields::write_all(fit, &mut out[8..80]);
     fields::write_all(refit, &mut out[80..152]);
     Ok(())

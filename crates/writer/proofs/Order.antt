@@ -1,31 +1,22 @@
--- What a writer answers and leaves, for any format, by the first test of the numbers that fails and by the room. Assumes nothing.
-use mathlib.Core.Path.{◌≡◌, refl, sym, ap, ◌∙◌}
+-- What a writer answers, for any format, by the first test of the numbers that fails and by the room. Assumes nothing.
+use mathlib.Core.Path.{◌≡◌, refl, sym, ◌∙◌}
 use mathlib.Core.Bool.{Bool, true, false, cond}
 use mathlib.Core.List.{List, [], ◌∷◌, ◌++◌}
-use Prim.Native.Nat.{ℕ, zero, suc, ◌+◌, ◌-◌, ◌≤◌}
+use Prim.Native.Nat.{ℕ, zero, suc, ◌≤◌}
 use native.Mathlib.Omega.{arith}
 use borrow.Author.Tests.{ltb-false}
-use borrow.Rule.Slice.PartMut.{mid_of, put_mid, mid_len}
 use lib.Dec.{T, ltb}
 use lib.ListN.{length}
 use Rattle.rule.specs.Refusal.{ROOM}
-use Rattle.rule.specs.Order.{Test, first_failed, if_passed, room}
-use Rattle.rule.specs.Lists.{filled}
+use Rattle.rule.specs.Order.{Test, first_failed, room}
 use Rattle.rule.proofs.Order.{numbered, all_passed, one_failed}
-use Rattle.rule.proofs.Lists.{filled-whole}
 use Rattle.fields.specs.Packing.{size_of}
-use Rattle.fields.proofs.Writing.{Laid, laid_length, laid_more}
-use Rattle.writer.specs.Format.{Format, record_of, writer_tests, writer_answer, written}
+use Rattle.writer.specs.Format.{Format, writer_tests, writer_answer}
 
 -- the number of the tests, then that of the room
 abbrev pub answer_by : (k size places : ℕ) → ℕ
 answer_by zero size places = cond (ltb places size) ROOM 0
 answer_by (suc k) size places = suc k
-
--- the record, where neither turned the call down
-abbrev pub exit_by : (k size : ℕ) → (bytes entry : List ℕ) → List ℕ
-exit_by zero size bytes entry = cond (ltb (length entry) size) entry (filled bytes entry)
-exit_by (suc k) size bytes entry = entry
 
 -- ---- what the answer says of the two
 
@@ -65,24 +56,3 @@ module _ {N A : Type 0} (f : Format N A) (n : N) (entry : List ℕ) where
 
     pub answer_is : writer_answer f n entry ≡ answer_by (first_failed tests) size (length entry)
     answer_is = of_tests (first_failed tests) refl
-
-    left : (k : ℕ) → if_passed (answer_by k size (length entry)) (filled (record_of f n) entry) entry ≡ exit_by k size (record_of f n) entry
-    unfolding if_passed
-    left zero = go (ltb (length entry) size)
-      where
-        go : (b : Bool) → if_passed (cond b ROOM 0) (filled (record_of f n) entry) entry ≡ cond b entry (filled (record_of f n) entry)
-        go true = refl
-        go false = refl
-    left (suc k) = refl
-
-    pub exit_is : written f n entry ≡ exit_by (first_failed tests) size (record_of f n) entry
-    unfolding written
-    exit_is = ap (λ k. if_passed k (filled (record_of f n) entry) entry) answer_is ∙ left (first_failed tests)
-
--- ---- a part of the record that is copied, between those that are laid
-
-module _ (entry : List ℕ) {xs s : List ℕ} (k : Laid entry xs s) (room : length xs ≤ length entry) where
-  pub laid_copy : {part : List ℕ} (at end : ℕ) (ys : List ℕ) → length xs ≡ at → at + length ys ≡ end → end ≤ length entry → part ≡ ys → Laid entry (xs ++ ys) (put_mid at (end - at) s part)
-  laid_copy at end ys e f g p =
-      laid_more entry k room at end ys e f g
-      (p ∙ sym (filled-whole ys (mid_of at (end - at) s) (mid_len at end s (rw (laid_length entry k room) g) ∙ (let h : end - at ≡ length ys = omega (arith, f) in h))))
