@@ -91,35 +91,35 @@ root_zero : (s : Bool) (e : ℤ) (thresh : Float) → le (root_of (fin s zero e)
 unfolding root_of of_bits
 root_zero s e thresh = zero_le s e thresh
 
--- a square from `high` on is not within, whether or not it has a root
-module _ {thresh high : Float} (settled : High thresh high) where
+-- a square from `high` on is not within, whether or not it has a root, if that is so of those of clear sign
+module _ (thresh high : Float) (beyond : (d : Float) → T (fits binary64 d) → T (clear d) → le high d ≡ true → le (root_of d) thresh ≡ false) where
   from_high : (q : Float) → T (fits binary64 q) → le high q ≡ true → le (root_of q) thresh ≡ false
   unfolding root_of clear le lt eq
   from_high nan f h = refl
   from_high (inf true) f h = refl
-  from_high (inf false) f h = settled.beyond (inf false) f tt h
-  from_high (fin s zero e) f h = root_zero s e thresh ∙ settled.beyond zero' zero_fits zero_clear (sym (le_zero s e high) ∙ h)
+  from_high (inf false) f h = beyond (inf false) f tt h
+  from_high (fin s zero e) f h = root_zero s e thresh ∙ beyond zero' zero_fits zero_clear (sym (le_zero s e high) ∙ h)
   from_high (fin true (suc m) e) f h = refl
-  from_high (fin false (suc m) e) f h = settled.beyond (fin false (suc m) e) f tt h
+  from_high (fin false (suc m) e) f h = beyond (fin false (suc m) e) f tt h
 
-  pub surely-beyond : (q : Float) → T (fits binary64 q) → possibly high q ≡ false → le (root_of q) thresh ≡ false
+  high_of : High thresh high
   unfolding possibly
-  surely-beyond q f h = from_high q f (not-false (le high q) h)
+  high_of = record { beyond = λ q f h. from_high q f (not-false (le high q) h) }
 
--- one that has a root, up to `low`, is within
-module _ {thresh low : Float} (settled : Low thresh low) where
+-- one that has a root, up to `low`, is within, if that is so of those of clear sign
+module _ (thresh low : Float) (within : (d : Float) → T (fits binary64 d) → T (clear d) → le d low ≡ true → le (root_of d) thresh ≡ true) where
   to_low : (q : Float) → T (fits binary64 q) → le zero' q ≡ true → le q low ≡ true → le (root_of q) thresh ≡ true
   unfolding clear of_bits le lt eq
   to_low nan f z h = clash h refl
   to_low (inf true) f z h = clash z refl
-  to_low (inf false) f z h = settled.within (inf false) f tt h
-  to_low (fin s zero e) f z h = root_zero s e thresh ∙ settled.within zero' zero_fits zero_clear (sym (zero_le s e low) ∙ h)
+  to_low (inf false) f z h = within (inf false) f tt h
+  to_low (fin s zero e) f z h = root_zero s e thresh ∙ within zero' zero_fits zero_clear (sym (zero_le s e low) ∙ h)
   to_low (fin true (suc m) e) f z h = clash z (zero_first false (pos 0) true (suc m) e ∙ eqb-suc-zero m)
-  to_low (fin false (suc m) e) f z h = settled.within (fin false (suc m) e) f tt h
+  to_low (fin false (suc m) e) f z h = within (fin false (suc m) e) f tt h
 
-  pub surely-within : (q : Float) → T (fits binary64 q) → surely low q ≡ true → le (root_of q) thresh ≡ true
+  low_of : Low thresh low
   unfolding surely
-  surely-within q f h = let z = and_parts (le zero' q) (le q low) h in to_low q f z.0 z.1
+  low_of = record { within = λ q f h. let z = and_parts (le zero' q) (le q low) h in to_low q f z.0 z.1 }
 
 -- ---- the limits themselves
 
@@ -128,12 +128,12 @@ pub above_clear : (t : Float) → lt zero' t ≡ true → T (clear t)
 above_clear t h = over_clear zero' t zero_clear h
 
 pub no-high : (thresh : Float) → High thresh no_limit
-unfolding of_bits is_nan
-no-high thresh = record { beyond = λ d f c g. clash refl (left-number nan d g) }
+unfolding of_bits is_nan possibly
+no-high thresh = record { beyond = λ q f h. clash refl (left-number nan q (not-false (le nan q) h)) }
 
 no-low : (thresh : Float) → Low thresh no_limit
-unfolding of_bits is_nan
-no-low thresh = record { within = λ d f c g. clash refl (right_number d nan g) }
+unfolding of_bits is_nan surely
+no-low thresh = record { within = λ q f h. clash refl (right_number q nan (and_parts (le zero' q) (le q nan) h).1) }
 
 -- by the root of a limit that is a double
 module _ (thresh limit : Float) (double : T (fits binary64 limit)) where
@@ -143,15 +143,11 @@ module _ (thresh limit : Float) (double : T (fits binary64 limit)) where
 
     low_limit : le (root_of limit) thresh ≡ true → Low thresh limit
     low_limit h =
-        record {
-          within = λ d f c g. is_true (le (root_of d) thresh) (le_trans_clear (root_of d) (root_of limit) thresh (root-clear d f c) limit_root (above_clear thresh sign) (root_monotone d limit f double (clear-has_root d c) (is_test (le d limit) g)) (is_test (le (root_of limit) thresh) h));
-        }
+        low_of thresh limit (λ d f c g. is_true (le (root_of d) thresh) (le_trans_clear (root_of d) (root_of limit) thresh (root-clear d f c) limit_root (above_clear thresh sign) (root_monotone d limit f double (clear-has_root d c) (is_test (le d limit) g)) (is_test (le (root_of limit) thresh) h)))
 
     high_limit : lt thresh (root_of limit) ≡ true → High thresh limit
     high_limit h =
-        record {
-          beyond = λ d f c g. lt_not_le thresh (root_of d) (above_clear thresh sign) (root-clear d f c) (lt_le_trans thresh (root_of limit) (root_of d) (above_clear thresh sign) limit_root (root-clear d f c) h (root_monotone limit d double f (clear-has_root limit (above_clear limit above)) (is_test (le limit d) g)));
-        }
+        high_of thresh limit (λ d f c g. lt_not_le thresh (root_of d) (above_clear thresh sign) (root-clear d f c) (lt_le_trans thresh (root_of limit) (root_of d) (above_clear thresh sign) limit_root (root-clear d f c) h (root_monotone limit d double f (clear-has_root limit (above_clear limit above)) (is_test (le limit d) g))))
 
   -- a fact about limits that both have, the limit where it settles something and the NaN
   of_both : (P : Float → Type 0) → P no_limit → (test : Bool) → (lt zero' thresh ≡ true → lt zero' limit ≡ true → test ≡ true → P limit) → P (settled thresh limit test)

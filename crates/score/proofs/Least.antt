@@ -1,5 +1,5 @@
 -- The least that a sum of squares, and so a root mean square, can be: found without the roots, and no more than it is. Assumes nothing.
-use mathlib.Core.Path.{◌≡◌, refl, sym, subst, ◌∙◌}
+use mathlib.Core.Path.{◌≡◌, refl, sym, subst}
 use mathlib.Core.Bool.{Bool, true, false, cond, ◌&&◌}
 use mathlib.Core.List.{List, [], ◌∷◌, ◌++◌, map}
 use Prim.Native.Nat.{ℕ, ◌+◌, ◌^◌, ◌≤◌, ◌<◌}
@@ -10,7 +10,6 @@ use lib.ListN.{length, get_or, take, drop}
 use lib.Ieee.{Float, nan, binary64, fits, lt, le, of_int}
 use lib.Ieee.Bits.{is_true, of_bits-fits}
 use lib.Ieee.Fits.{add-fits}
-use Rattle.std.specs.Prelude.{None}
 use Rattle.std.proofs.lemmas.Bool.{and_parts}
 use Rattle.std.proofs.lemmas.List.{map-append, take-append-drop}
 use Rattle.std.proofs.lemmas.List.Elements.{filter-append}
@@ -25,10 +24,9 @@ use Rattle.book.specs.Score.{close, square, squares_in, rms_of}
 use Rattle.book.proofs.Clear.{clear-has_root, compared, square-clear, add_clear, squares_sum, sum_clear, rms_of_lem}
 use Rattle.book.proofs.ClearOrder.{le_same, lt_le, lt_not_le, le_trans_clear, over_clear}
 use Rattle.book.proofs.Under.{shrink, shrunk_under, shrunk_clear, add_under, add_none, add_above, rms-under}
-use Rattle.score.specs.Limits.{Low, surely, addend, Under}
-use Rattle.score.specs.Less.{less_of}
+use Rattle.score.specs.Limits.{surely, addend, Under}
 use Rattle.score.specs.Sum.{within_added}
-use Rattle.score.proofs.Bounds.{zero_clear, above_clear, surely-within}
+use Rattle.score.proofs.Bounds.{zero_clear, above_clear}
 use Rattle.score.proofs.Walk.{squares_more}
 
 -- ---- what a square adds
@@ -56,13 +54,17 @@ addend-clear thresh d = go (le d thresh) refl
 pub adds_nothing : (thresh d : Float) → Under zero' (addend thresh d)
 adds_nothing thresh d = record { sign = zero_clear; under = zero_least (addend thresh d) (addend-clear thresh d) }
 
-pub adds_least : {thresh low : Float} (q : Float) → Low thresh low → T (fits binary64 q) → (lt zero' q && le q low) ≡ true → Under (q ⊗ shrink) (addend thresh (root_of q))
-unfolding square surely
-adds_least {thresh} {low} q settled double h =
-    let z = and_parts (lt zero' q) (le q low) h in
-    let c = above_clear q z.0 in
-    let sure : surely low q ≡ true = rw (is_true (le zero' q) (lt_le zero' q z.0), z.1) in
-    record { sign = shrunk_clear q c; under = subst (λ x. T (le (q ⊗ shrink) x)) (adds thresh (root_of q) (surely-within settled q double sure)) (shrunk_under q double c) }
+pub above_sure : (low q : Float) → (lt zero' q && le q low) ≡ true → surely low q ≡ true
+unfolding surely
+above_sure low q h = let z = and_parts (lt zero' q) (le q low) h in rw (is_true (le zero' q) (lt_le zero' q z.0), z.1)
+
+pub adds_least : (thresh q : Float) → T (fits binary64 q) → lt zero' q ≡ true → le (root_of q) thresh ≡ true → Under (q ⊗ shrink) (addend thresh (root_of q))
+unfolding square
+adds_least thresh q double above within =
+    let c = above_clear q above in
+    record { sign = shrunk_clear q c; under = subst (λ x. T (le (q ⊗ shrink) x)) (adds thresh (root_of q) within) (shrunk_under q double c) }
+
+pub ruleset adding = (above_sure, adds_least, adds_nothing, zero_clear, above_clear, shrunk_clear)
 
 -- ---- the sum
 
@@ -138,6 +140,8 @@ module _ (thresh : Float) where
                   (add_none whole whole (sum_fits (map root_of (take i qs))) clears clears (le_same whole clears));
             }
 
+pub ruleset summing = (least_part, least_none, least_next, zero_clear, add_clear)
+
 -- ---- the root mean square
 
 -- one that is at least what is at least `best` is not below it, whatever `best` is
@@ -158,9 +162,8 @@ module _ (best : Float) (ds : List Float) (thresh : Float) (count : ℕ) where
   abbrev whole : Float
   whole = squares_in thresh ds
 
-  pub told_by_least : count ≤ 2 ^ 53 → (count ≡ 0 → ⊥) → {least root : Float} → Under least whole → root ≡ root_of (least ⊘ of_int binary64 (pos count)) → le best root ≡ true → None ≡ less_of (rms_of count whole) best
-  unfolding less_of
-  told_by_least small some {least} {root} u r h =
-      let under = rms-under count some small least whole u.sign (sum_clear thresh ds) u.under in
-      let sign = subst (λ x. T (clear x)) (sym (r ∙ rms_some some least)) (rms_of_lem count least small u.sign) in
-      rw (not_below best root (rms_of count whole) sign (rms_of_lem count whole small (sum_clear thresh ds)) h (subst (λ x. T (le x (rms_of count whole))) (sym r) under))
+  pub told_by_least : count ≤ 2 ^ 53 → (count ≡ 0 → ⊥) → {least : Float} → Under least whole → le best (root_of (least ⊘ of_int binary64 (pos count))) ≡ true → lt (rms_of count whole) best ≡ false
+  told_by_least small some {least} u h =
+      let sign = subst (λ x. T (clear x)) (sym (rms_some some least)) (rms_of_lem count least small u.sign) in
+      not_below best (root_of (least ⊘ of_int binary64 (pos count))) (rms_of count whole) sign (rms_of_lem count whole small (sum_clear thresh ds)) h
+      (rms-under count some small least whole u.sign (sum_clear thresh ds) u.under)

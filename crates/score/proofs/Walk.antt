@@ -22,10 +22,10 @@ use Rattle.rule.proofs.Tests.{clash}
 use Rattle.root.specs.Root.{root_of}
 use Rattle.numbers.specs.Constants.{zero'}
 use Rattle.book.specs.Score.{close, count_in, square, squares_in}
+use Rattle.book.proofs.Clear.{count-within}
 use Rattle.score.specs.Places.{indices_in}
 use Rattle.score.specs.Limits.{Low, High, surely, possibly}
 use Rattle.score.specs.Sum.{within_added}
-use Rattle.score.proofs.Bounds.{surely-within, surely-beyond}
 
 -- ---- the count
 
@@ -54,8 +54,8 @@ module _ {thresh low high : Float} (l : Low thresh low) (h : High thresh high) (
   pub all_told : {i sure possible : ℕ} → length qs ≤ i → sure ≡ count_by (surely low) (take i qs) → possible ≡ count_by (possibly high) (take i qs) → sure ≡ possible
       → sure ≡ count_in thresh (map root_of qs)
   all_told {i} {sure} end s p e =
-      let least = fewer (surely low) (λ q. le (root_of q) thresh) (λ q. surely-within l q) qs doubles in
-      let most = fewer (λ q. le (root_of q) thresh) (possibly high) (λ q f c. go (possibly high q) (surely-beyond h q f) c) qs doubles in
+      let least = fewer (surely low) (λ q. le (root_of q) thresh) l.within qs doubles in
+      let most = fewer (λ q. le (root_of q) thresh) (possibly high) (λ q f c. go (possibly high q) (h.beyond q f) c) qs doubles in
       let all : take i qs ≡ qs = take_all i qs end in
       let s' : sure ≡ count_by (surely low) qs = rw all at s in
       let p' = rw all at p in
@@ -84,11 +84,6 @@ pub squares_none : (thresh : Float) → squares_in thresh [] ≡ zero'
 unfolding squares_in
 squares_none thresh = refl
 
--- a square that isn't possibly within adds nothing
-pub beyond_added : {thresh high : Float} → High thresh high → (q sum : Float) → T (fits binary64 q) → possibly high q ≡ false → sum ≡ within_added thresh sum (root_of q)
-unfolding within_added
-beyond_added h q sum f e = rw (surely-beyond h q f e)
-
 -- ---- the places
 
 places_push : (p : Float → Bool) (k : ℕ) (ds : List Float) (d : Float) → places_from k p (ds ++ (d ∷ [])) ≡ places_from k p ds ++ cond (p d) ((k + length ds) ∷ []) []
@@ -113,41 +108,76 @@ stored front entry {k} i long inside =
     ∙ set-append_seam front (get_or entry k 0) (drop (suc k) entry) i
     ∙ rw (← add-one k) (sym (append_assoc front (i ∷ []) (drop (k + 1) entry)))
 
-pub indices_count : (thresh : Float) (ds : List Float) → length (indices_in thresh ds) ≡ count_in thresh ds
+indices_count : (thresh : Float) (ds : List Float) → length (indices_in thresh ds) ≡ count_in thresh ds
 unfolding indices_in count_in
 indices_count thresh ds = places_count (close thresh) 0 ds
 
-module _ (thresh : Float) (qs : List Float) where
-  -- the places up to i are written, and no more
-  pub record Placed (entry : List ℕ) (k i : ℕ) (s : List ℕ) : Type 0 where
-    pub small : k ≤ i
-    pub long : length (indices_in thresh (map root_of (take i qs))) ≡ k
-    pub is : s ≡ indices_in thresh (map root_of (take i qs)) ++ drop k entry
+module _ (thresh : Float) (qs : List Float) (entry : List ℕ) where
+  -- the places of the first i; how many they are, and the lent list when they are written
+  abbrev first : ℕ → List ℕ
+  first i = indices_in thresh (map root_of (take i qs))
 
-  pub placed_none : (entry : List ℕ) → Placed entry 0 0 entry
-  unfolding indices_in places_from
-  placed_none entry = record { small = Prim.Native.Nat.zero-le; long = refl; is = refl }
+  unfoldable pub places : ℕ → ℕ
+  places i = length (first i)
+
+  unfoldable pub left : ℕ → List ℕ
+  left i = first i ++ drop (places i) entry
+
+  pub places_none : places 0 ≡ 0
+  unfolding places indices_in places_from
+  places_none = refl
+
+  pub left_none : left 0 ≡ entry
+  unfolding left places indices_in places_from
+  left_none = refl
 
   module _ {i : ℕ} (here : i < length qs) where
-    indices_push : indices_in thresh (map root_of (take (i + 1) qs)) ≡ indices_in thresh (map root_of (take i qs)) ++ cond (le (root_of (get_or qs i nan)) thresh) (i ∷ []) []
+    push : first (i + 1) ≡ first i ++ cond (le (root_of (get_or qs i nan)) thresh) (i ∷ []) []
     unfolding indices_in close
-    indices_push =
+    push =
         let up_to : i ≤ length qs = omega arith in
         let long : 0 + length (map root_of (take i qs)) ≡ i = rw (zero-add, length-map, length-take-le) in
         rw (take_more qs i nan here, map-append root_of (take i qs) (get_or qs i nan ∷ []), places_push (close thresh) 0 (map root_of (take i qs)) (root_of (get_or qs i nan)), long)
 
-    module _ (entry : List ℕ) {k : ℕ} {s : List ℕ} (p : Placed entry k i s) where
-      pub placed_same : le (root_of (get_or qs i nan)) thresh ≡ false → Placed entry k (i + 1) s
-      placed_same e =
-          let push = rw e at indices_push in
-          record { small = let w = p.small in omega (arith, w); long = rw (push, append-nil) p.long; is = rw (push, append-nil) p.is }
+    same : le (root_of (get_or qs i nan)) thresh ≡ false → first (i + 1) ≡ first i
+    same e = push ∙ rw (e, append-nil)
 
-      pub placed_more : length qs ≤ length entry → le (root_of (get_or qs i nan)) thresh ≡ true → Placed entry (k + 1) (i + 1) (set s k i)
-      placed_more room e =
-          let push = rw e at indices_push in
-          let w = p.small in
-          record {
-            small = omega (arith, w);
-            long = rw (push, length-append, p.long);
-            is = rw push (ap (λ x. set x k i) p.is ∙ stored (indices_in thresh (map root_of (take i qs))) entry i p.long (omega (arith, w, here, room)));
-          }
+    more : le (root_of (get_or qs i nan)) thresh ≡ true → first (i + 1) ≡ first i ++ (i ∷ [])
+    more e = push ∙ rw e
+
+    pub places_few : places i ≤ i
+    unfolding places
+    places_few =
+        let few = count-within thresh (map root_of (take i qs)) in
+        let up_to : i ≤ length qs = omega arith in
+        let long : length (map root_of (take i qs)) ≡ i = rw (length-map, length-take-le) in
+        omega (arith, few, long, indices_count thresh (map root_of (take i qs)))
+
+    pub places_same : le (root_of (get_or qs i nan)) thresh ≡ false → places (i + 1) ≡ places i
+    unfolding places
+    places_same e = ap length (same e)
+
+    pub places_more : le (root_of (get_or qs i nan)) thresh ≡ true → places (i + 1) ≡ places i + 1
+    unfolding places
+    places_more e = ap length (more e) ∙ length-append (first i) (i ∷ [])
+
+    pub left_same : le (root_of (get_or qs i nan)) thresh ≡ false → left (i + 1) ≡ left i
+    unfolding left
+    left_same e = rw (places_same e, same e)
+
+    pub left_more : length qs ≤ length entry → le (root_of (get_or qs i nan)) thresh ≡ true → left (i + 1) ≡ set (left i) (places i) i
+    unfolding left places
+    left_more room e =
+        let w : length (first i) ≤ i = places_few in
+        rw (more e, length-append) (sym (stored (first i) entry i refl (omega (arith, w, here, room))))
+
+  module _ {i : ℕ} (end : length qs ≤ i) where
+    pub places_all : places i ≡ count_in thresh (map root_of qs)
+    unfolding places
+    places_all = rw (take_all i qs end) (indices_count thresh (map root_of qs))
+
+    pub left_all : left i ≡ indices_in thresh (map root_of qs) ++ drop (length (indices_in thresh (map root_of qs))) entry
+    unfolding left places
+    left_all = rw (take_all i qs end)
+
+pub ruleset placing = (places_none, left_none, places_few, places_same, places_more, left_same, left_more, places_all, left_all)

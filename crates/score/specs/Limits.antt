@@ -7,11 +7,20 @@ use Rattle.root.specs.Root.{root_of}
 use Rattle.numbers.specs.Constants.{zero'}
 use Rattle.book.specs.Score.{square}
 
+-- A square that has a root and is at most `low` is surely within; one that is not from `high` on is possibly within. A square below 0 and a NaN, of which
+-- there are none among the squares of distances, are within nothing.
+unfoldable pub surely : (low q : Float) → Bool
+surely low q = le zero' q && le q low
+
+unfoldable pub possibly : (high q : Float) → Bool
+possibly high q = not (le high q)
+
+-- what each of the two limits settles
 pub record Low (thresh low : Float) : Type 0 where
-  pub within : (d : Float) → T (fits binary64 d) → T (clear d) → le d low ≡ true → le (root_of d) thresh ≡ true
+  pub within : (q : Float) → T (fits binary64 q) → surely low q ≡ true → le (root_of q) thresh ≡ true
 
 pub record High (thresh high : Float) : Type 0 where
-  pub beyond : (d : Float) → T (fits binary64 d) → T (clear d) → le high d ≡ true → le (root_of d) thresh ≡ false
+  pub beyond : (q : Float) → T (fits binary64 q) → possibly high q ≡ false → le (root_of q) thresh ≡ false
 
 -- a NaN: nothing compares with it, so it settles nothing
 abbrev pub no_limit : Float
@@ -20,14 +29,6 @@ no_limit = of_bits binary64 0x7ff8_0000_0000_0000
 -- a limit, where it is told that it settles something, and it and the threshold are above 0
 unfoldable pub settled : (thresh limit : Float) → Bool → Float
 settled thresh limit settles = cond (lt zero' thresh && (lt zero' limit && settles)) limit no_limit
-
--- A square that has a root and is at most `low` is surely within; one that is not from `high` on is possibly within. A square below 0 and a NaN, of which
--- there are none among the squares of distances, are within nothing.
-unfoldable pub surely : (low q : Float) → Bool
-surely low q = le zero' q && le q low
-
-unfoldable pub possibly : (high q : Float) → Bool
-possibly high q = not (le high q)
 
 -- what a distance adds to the sum of squares
 unfoldable pub addend : Float → Float → Float

@@ -18,6 +18,7 @@ use limits::Limits;
 use sum::Sum;
 
 // How many of the squares have a root within the threshold.
+#[tactic(auto, using(crate::proofs::Walk::all_told, crate::proofs::Walk::count_by_roots))]
 pub fn count_inliers(thresh: f64, squares: &[f64]) -> usize
     ensures { result ≡ count_in thresh (map root_of squares.now) }
 {
@@ -60,7 +61,7 @@ pub fn rms(thresh: f64, squares: &[f64], count: u32) -> f64
 }
 
 // No more than the sum of the squares, and hardly less unless it is `enough`. No root is taken.
-#[tactic(auto, using(crate::proofs::Least::least_part))]
+#[tactic(auto, using(crate::proofs::Least::summing))]
 fn least_sum(limits: Limits, squares: &[f64], enough: f64) -> f64
     ensures { Under result (squares_in limits.thresh (map root_of squares.now)) }
 {
@@ -76,7 +77,7 @@ fn least_sum(limits: Limits, squares: &[f64], enough: f64) -> f64
 
 // The root mean square if it is less than `best`. Nearly always where it isn't, the least that it can
 // be is enough to tell, and that takes one root.
-#[tactic(auto, unfolding(crate::specs::Less::less_of))]
+#[tactic(auto, using(crate::proofs::Least::told_by_least), unfolding(crate::specs::Less::less_of))]
 pub fn rms_if_less(thresh: f64, squares: &[f64], count: u32, best: f64) -> Option<f64>
     ensures { result ≡ less_of (rms_of count (squares_in thresh (map root_of squares.now))) best }
 {
@@ -93,8 +94,8 @@ pub fn rms_if_less(thresh: f64, squares: &[f64], count: u32, best: f64) -> Optio
 
 // Writes the places of the squares with a root within the threshold to the front of `indices`,
 // ascending, and answers how many; nothing where it has not a place for each square, or there are
-// over 2,000.
-#[tactic(auto, using(std::proofs::lemmas::Grind::common_steps, crate::proofs::Walk::indices_count), unfolding(crate::specs::Places::index_count, crate::specs::Places::indexed, crate::specs::Places::cramped))]
+// over 2,000. It answers 0 then, as where none is within: it can't fail, and who calls it has the room.
+#[tactic(auto, using(std::proofs::lemmas::Grind::common_steps, crate::proofs::Walk::placing), unfolding(crate::specs::Places::index_count, crate::specs::Places::indexed, crate::specs::Places::cramped))]
 pub fn write_inliers(thresh: f64, squares: &[f64], indices: &mut [u32]) -> usize
     ensures value { result ≡ index_count thresh (map root_of squares.now) indices.old }
     ensures indices_after { indices.new ≡ indexed thresh (map root_of squares.now) indices.old }

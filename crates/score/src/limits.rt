@@ -14,7 +14,8 @@ pub struct Limits {
     ghost high_settles: { High thresh high },
 }
 
-// A limit where it settles anything. Else a NaN: it compares with nothing.
+// A limit where it settles anything. Else a NaN: it compares with nothing, where an `Option` would add a
+// case to each of the four methods that only compare.
 #[tactic(auto, unfolding(crate::specs::Limits::settled))]
 fn settled(thresh: f64, limit: f64, settles: bool) -> f64
     ensures { result ≡ settled thresh limit settles }
@@ -79,6 +80,7 @@ impl Limits {
 
     // No more than what a square adds to the sum, and hardly less: the square of a double's root, rounded
     // twice, is not below the double less its 2^52nd part. Both tests are made, so that there is no jump.
+    #[tactic(auto, using(crate::proofs::Least::adding))]
     pub fn least_addend(self, square: f64) -> f64
         ensures { Under result (addend self.thresh (root_of square)) }
     {

@@ -32,6 +32,7 @@ impl Sum {
     };
 
     // The square of the root of `square` is added, or waits to be.
+    #[tactic(auto, unfolding(crate::specs::Sum::within_added))]
     pub fn add(self, limits: Limits, square: f64) -> Sum
         ensures { with_waiting limits.thresh result.total result.waiting ≡ within_added limits.thresh (with_waiting limits.thresh self.total self.waiting) (root_of square) }
     {
