@@ -163,18 +163,8 @@ fn ranks_of_signs(rt: &impl Print) -> io::Result<()> {
     )
 }
 
-fn on_sheet<'a>(marks: &'a [f64]) -> Points<'a> {
-    Points {
-        marks,
-        side: Side::Sheet,
-    }
-}
-
-fn on_pixels<'a>(marks: &'a [f64]) -> Points<'a> {
-    Points {
-        marks,
-        side: Side::Pixel,
-    }
+fn points<'a>(marks: &'a [f64], side: Side) -> Points<'a> {
+    Points { marks, side }
 }
 
 fn show_collinear(rt: &impl Print, name: &str, points: Points) -> io::Result<()> {
@@ -239,7 +229,7 @@ fn at(x: f64, y: f64, u: f64, v: f64) -> Mark {
     Mark { x, y, u, v }
 }
 
-// Four marks as a list of numbers.
+// Four marks as a list of numbers. (No plainer by `numbers` and copies.)
 fn list(a: Mark, b: Mark, c: Mark, d: Mark) -> [f64; 16]
     ensures { 16 ≡ length result }
 {
@@ -274,17 +264,25 @@ fn lines(rt: &impl Print) -> io::Result<()> {
     let two = &straight[..8];
     let none = &straight[..0];
     let uneven = &straight[..7];
-    show_collinear(rt, "collinear (0,0) (0.0005,0) (0,0.001):", on_sheet(three))?;
-    show_collinear(rt, "collinear two points:", on_sheet(two))?;
-    show_collinear(rt, "collinear no points:", on_sheet(none))?;
+    show_collinear(
+        rt,
+        "collinear (0,0) (0.0005,0) (0,0.001):",
+        points(three, Side::Sheet),
+    )?;
+    show_collinear(rt, "collinear two points:", points(two, Side::Sheet))?;
+    show_collinear(rt, "collinear no points:", points(none, Side::Sheet))?;
     show_collinear(
         rt,
         "collinear (0,0) (1,0) (2,0) (3,0):",
-        on_sheet(&straight),
+        points(&straight, Side::Sheet),
     )?;
-    show_collinear(rt, "collinear their pixels:", on_pixels(&straight))?;
-    show_collinear(rt, "collinear 7 numbers:", on_sheet(uneven))?;
-    show_collinear(rt, "collinear x = 2e9:", on_pixels(&wide))
+    show_collinear(
+        rt,
+        "collinear their pixels:",
+        points(&straight, Side::Pixel),
+    )?;
+    show_collinear(rt, "collinear 7 numbers:", points(uneven, Side::Sheet))?;
+    show_collinear(rt, "collinear x = 2e9:", points(&wide, Side::Pixel))
 }
 
 fn normalisings(rt: &impl Print) -> io::Result<()> {
@@ -304,12 +302,32 @@ fn normalisings(rt: &impl Print) -> io::Result<()> {
     let two = &pair[..8];
     let two_signed = &signed[..8];
     let none = &pair[..0];
-    show_normalized(rt, "normalising (1,1) (-1,-1):", on_sheet(two), 4)?;
-    show_normalized(rt, "normalising (-0,1) (-0,3):", on_sheet(two_signed), 5)?;
-    show_normalized(rt, "normalising two at (0,0):", on_pixels(two), 4)?;
-    show_normalized(rt, "normalising (0,0) (2^-51,0):", on_pixels(two_signed), 4)?;
-    show_normalized(rt, "normalising no points:", on_sheet(none), 4)?;
-    show_normalized(rt, "normalising two points, 3 places:", on_sheet(two), 3)
+    show_normalized(
+        rt,
+        "normalising (1,1) (-1,-1):",
+        points(two, Side::Sheet),
+        4,
+    )?;
+    show_normalized(
+        rt,
+        "normalising (-0,1) (-0,3):",
+        points(two_signed, Side::Sheet),
+        5,
+    )?;
+    show_normalized(rt, "normalising two at (0,0):", points(two, Side::Pixel), 4)?;
+    show_normalized(
+        rt,
+        "normalising (0,0) (2^-51,0):",
+        points(two_signed, Side::Pixel),
+        4,
+    )?;
+    show_normalized(rt, "normalising no points:", points(none, Side::Sheet), 4)?;
+    show_normalized(
+        rt,
+        "normalising two points, 3 places:",
+        points(two, Side::Sheet),
+        3,
+    )
 }
 
 // The square around the origin: its normalised points are its own.

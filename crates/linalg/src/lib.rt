@@ -47,8 +47,8 @@ pub fn centroid(points: Points) -> Point
     }
 }
 
-// The points go in twos, and the last of an odd number by itself: two roots together take about three
-// quarters of the time of one after the other.
+// The points go in twos, and the last of an odd number by itself: two roots together take less time than
+// one after the other (`sqrt_two`).
 #[tactic(auto, using(crate::proofs::Sums::two_none, crate::proofs::Sums::two_more, crate::proofs::Sums::distance_even, crate::proofs::Sums::distance_odd))]
 pub fn mean_distance(points: Points, centre: Point) -> f64
     ensures { result ≡ mean_distance centre (points_of points.entry.side points.entry.marks.now) }

@@ -1,5 +1,5 @@
-// Magnitudes, and what is finite: `abs`, `is_finite` and `ensure_finite`, which the Rust has from its
-// standard library, and 01's test of a magnitude.
+// Magnitudes, and what is finite: `abs` and `is_finite` are std's, under document 01's words;
+// `ensure_finite` asks it of a list; and 01's test of a magnitude.
 ghost use Rattle.std.specs.Prelude.{◌≡◌};
 ghost use Rattle.numbers.specs.Finite.{abs_of, is_finite, all_finite, within as withinOf};
 

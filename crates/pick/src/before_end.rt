@@ -26,7 +26,8 @@ impl BeforeEnd {
         Ok(BeforeEnd { state: s })
     }
 
-    // The state after a trial without a fit.
+    // The state after a trial without a fit. (This and `few` stay two: one for both would take which count
+    // goes up.)
     #[tactic(auto, using(crate::proofs::Booking::open_counts), unfolding(book::specs::Book::entered))]
     pub fn empty(self) -> State
         ensures { view_state result ≡ (booked self.state empty).run }

@@ -78,7 +78,8 @@ impl BeforeEnd {
     }
 }
 
-// `trial` and `step` but for the old state, which they put beside a refusal.
+// `tried` and `stepped` are `trial` and `step` with a refusal as an `Err`, which has no place for the old
+// state: those two put it beside.
 #[tactic(auto, using(crate::proofs::Order::trial_by_tests))]
 fn tried(s: State, call: Call) -> Result<Tried, Refusal>
     ensures { answer_in s result ≡ trial_answer (view_state s) (call_of call.entry) }
@@ -98,7 +99,7 @@ fn stepped(s: State, call: Call) -> Result<Tried, Refusal>
     BeforeEnd::of(s)?.judged(call)
 }
 
-// The old state, and the number.
+// The old state, and the refusal.
 fn refused(s: State, refusal: Refusal) -> Tried
     ensures { view_tried result ≡ answer_in s (Err refusal) }
 {

@@ -4,7 +4,7 @@ use booking::Counts;
 use pick::{Outcome, State, Winner};
 use std::{fmt, io};
 
-// A double, as its bits.
+// A double, as its bits. (`cases` has one that writes a NaN as such; here it is its bits.)
 #[derive(Clone, Copy)]
 struct Bits(f64);
 

@@ -21,7 +21,8 @@ pub extern "C" fn probe_normalize_points_2d(marks: &[f64], side: u32, points: &m
     rule::number(linalg::normalize_points_2d(Points { marks, side }, points))
 }
 
-// The same call, for the entry of the matrix at `place`, row by row: 0 where it is refused.
+// The same call, for the entry of the matrix at `place`, row by row: 0 where it is refused, and a NaN
+// behind the ninth.
 #[tactic(auto, using(crate::proofs::Cells::entry_beyond, crate::proofs::Cells::entry_inside, crate::proofs::Cells::entry_refused))]
 #[unsafe(no_mangle)]
 pub extern "C" fn probe_normalize_matrix(

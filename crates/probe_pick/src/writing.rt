@@ -66,7 +66,8 @@ fn winner_words(best: Option<Winner>) -> [u64; 13]
     best.map_or([0; 13], held_words)
 }
 
-// A state's words.
+// A state's words. (The ratio's, the last, before the winner's: the other way round the check doesn't
+// find the list. So in a trial's.)
 #[tactic(auto, unfolding(crate::specs::Words::run_words))]
 pub(crate) fn state_words(s: State) -> [u64; 25]
     ensures { result ≡ run_words (view_state s) }

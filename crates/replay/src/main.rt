@@ -66,7 +66,7 @@ fn finite_agrees(record: &[u8]) -> bool {
 struct Leaves;
 
 impl Answers for Leaves {
-    // No more is said of an answer than the leaves' own contracts say.
+    // Nothing is promised of an answer here; the leaves have contracts of their own.
     ghost says = { λ kind bytes right. Unit {0} };
 
     fn agrees(kind: Kind, record: &[u8]) -> bool {

@@ -108,7 +108,7 @@ fn distance_agrees(record: &[u8]) -> bool {
 struct Entries;
 
 impl Answers for Entries {
-    // No more is said of an answer than the entries' own contracts say.
+    // Nothing is promised of an answer here; the entries have contracts of their own.
     ghost says = { λ kind bytes right. Unit {0} };
 
     fn agrees(kind: Kind, record: &[u8]) -> bool {

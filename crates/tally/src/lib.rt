@@ -61,7 +61,7 @@ pub struct Score {
 fn more(n: u64) -> u64
     ensures { result ≡ one_more n }
 {
-    n + u64::from(n < 1000000)
+    if n < 1000000 { n + 1 } else { n }
 }
 
 impl Score {
