@@ -18,6 +18,7 @@ use Rattle.rule.proofs.Lists.{filled_front}
 use Rattle.rule.proofs.Views.{number_above_0}
 use Rattle.sheet.specs.Marks.{marks_of, shape, point, few, marks_tests}
 use Rattle.sheet.specs.declared.model.Model.{Model}
+use Rattle.sheet.proofs.Places.{count}
 use Rattle.book.specs.Book.{Winner}
 use Rattle.fields.specs.Fields.{words_of}
 use Rattle.fields.proofs.Reading.{words_count}
@@ -67,8 +68,8 @@ module _ (f : Files) (winner indices : ℕ) where
   abbrev n : ℕ
   n = length (marks_of (numbers_in f.marks))
 
-  abbrev later : List Test
-  later = later_tests (numbers_in f.marks) n (length f.stops) (length f.trials) winner indices
+  abbrev rest : List Test
+  rest = later_tests (numbers_in f.marks) n (length f.stops) (length f.trials) winner indices
 
   pub by_layers : run_answer f winner indices
       ≡ cond (options_record f.options).fails (refused RECORD)
@@ -76,10 +77,10 @@ module _ (f : Files) (winner indices : ℕ) where
   unfolding run_answer later_answer run_tests order_of numbered first_failed options_record mark_bytes
   by_layers =
       let a = result_of (stop_of o n (numbers_in f.marks) (words_of f.stops) (records_in f.trials)) in
-      after_both (options_record f.options ∷ []) (options_tests o ++ (mark_bytes f.marks ∷ later)) tt a
+      after_both (options_record f.options ∷ []) (options_tests o ++ (mark_bytes f.marks ∷ rest)) tt a
       ∙ after_one (options_record f.options).fails RECORD _ (omega arith)
-      ∙ ap (cond (options_record f.options).fails (refused RECORD)) (after_both (options_tests o) (mark_bytes f.marks ∷ later) (options_above_0 o) a
-      ∙ ap (after_tests (first_failed (options_tests o))) (after_both (mark_bytes f.marks ∷ []) later tt a ∙ after_one (mark_bytes f.marks).fails SHAPE _ (omega arith)))
+      ∙ ap (cond (options_record f.options).fails (refused RECORD)) (after_both (options_tests o) (mark_bytes f.marks ∷ rest) (options_above_0 o) a
+      ∙ ap (after_tests (first_failed (options_tests o))) (after_both (mark_bytes f.marks ∷ []) rest tt a ∙ after_one (mark_bytes f.marks).fails SHAPE _ (omega arith)))
 
 -- ---- what the later tests say where they all pass
 
@@ -148,3 +149,9 @@ pub numbers_read : (bytes : List ℕ) (zeros : List Float) {k : ℕ} → length 
 numbers_read bytes zeros {k} cut e h =
     let w : length (numbers_in bytes) ≡ k = (let c = numbers-length bytes in omega (arith, c, cut, e)) in
     ap (λ j. take j (filled (numbers_in bytes) zeros)) (sym w) ∙ filled_front (numbers_in bytes) zeros (rw w h)
+
+-- ---- what the proof of each layer takes
+
+pub ruleset whole = (after_number, after_none, by_layers, winner_fits, indices_fit, numbers_read)
+
+pub ruleset later = (after_number, stops_fit, marks_tested, entries_read, count)

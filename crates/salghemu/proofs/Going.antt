@@ -89,16 +89,16 @@ module _ (o : RansacOptions) (l : List Float) (table : List ℕ) (parts : List (
 
   -- The check shows a record field by field, and would not find the lemmas below by it.
   pub data Going (i : ℕ) (s : State) : Type 0 where
-    going : Facts i s → Going i s
+    so_far : Facts i s → Going i s
 
   facts_in : {i : ℕ} {s : State} → Going i s → Facts i s
-  facts_in (going f) = f
+  facts_in (so_far f) = f
 
   pub going_none : (s : State) → view_state s ≡ fresh_run o n → Going 0 s
   unfolding fresh_run stop_of
   going_none s e =
       let b : book_of s ≡ fresh (rule_of o) = ap (λ r. r.book) e in
-      going (record {
+      so_far (record {
         options = ap (λ r. r.options) e;
         marks = ap (λ r. r.n) e;
         counts = rw b (counts_fresh (rule_of o));
@@ -157,7 +157,7 @@ module _ (o : RansacOptions) (l : List Float) (table : List ℕ) (parts : List (
             let told = next_read (booking_of (view_state s) next) (view_state t) (sym e ∙ nexts) in
             let run = told.1 in
             let book : book_of t ≡ next.book = ap (λ (x : Run). x.book) run in
-            going (record {
+            so_far (record {
               options = ap (λ (x : Run). x.options) run ∙ (facts_in g).options;
               marks = ap (λ (x : Run). x.n) run ∙ (facts_in g).marks;
               counts = rw (book, ← called_is) (counts_next (rule_of o) (book_of s) (judged bytes) (facts_in g).counts);
@@ -166,3 +166,5 @@ module _ (o : RansacOptions) (l : List Float) (table : List ℕ) (parts : List (
                   ∙ sym (run_on (rule_of o) (book_of s) still (drop (i + 1) js) (judged bytes) told.0)
                   ∙ owed_is;
             })
+
+pub ruleset going = (going_none, going_late, going_out, going_on, going_broken, by_records)

@@ -20,7 +20,7 @@ use records::RansacOptions;
 use rule::Refusal;
 
 // Reads trials to the bound, the end of the list or the first that is refused. The marks are tested.
-#[tactic(auto, using(crate::proofs::Going::going_none, crate::proofs::Going::going_late, crate::proofs::Going::going_out, crate::proofs::Going::going_on, crate::proofs::Going::going_broken, crate::proofs::Going::by_records))]
+#[tactic(auto, using(crate::proofs::Going::going))]
 fn read_trials(
     o: RansacOptions,
     marks: &[f64],
@@ -49,15 +49,15 @@ fn read_trials(
     Ok(s)
 }
 
-// The winner's record, into its own 88 places.
-fn put_winner(part: &mut [u8], w: Winner)
-    requires { length part.old ≡ 88 }
-    ensures { part.new ≡ winner_bytes (view_winner w) }
+// The winner's record, to the front of a list that has room for it.
+#[tactic(auto, using(crate::proofs::Giving::winner_laid))]
+fn put_winner(out: &mut [u8], w: Winner)
+    requires { 88 ≤ length out.old }
+    ensures { out.new ≡ laid_over (winner_bytes (view_winner w)) out.old }
 {
-    w.count.put_to(&mut part[0..4]);
-    w.number.put_to(&mut part[4..8]);
-    w.rms.put_to(&mut part[8..16]);
-    fields::write_all(&w.model.numbers(), &mut part[16..88]);
+    fields::write_all(&[w.count, w.number], &mut out[0..8]);
+    w.rms.put_to(&mut out[8..16]);
+    fields::write_all(&w.model.numbers(), &mut out[16..88]);
 }
 
 // The tests after the marks' length, in order: refused with 6, 7, 8, 1 or 9.
@@ -91,7 +91,7 @@ fn check_later(
 }
 
 // The winner over marks of the right length, decoded, if the lent outputs have room for what it gives.
-#[tactic(auto, using(std::proofs::lemmas::Grind::common_steps, crate::proofs::Chain::after_number, crate::proofs::Chain::stops_fit, crate::proofs::Chain::marks_tested, crate::proofs::Chain::entries_read, sheet::proofs::Places::count), unfolding(crate::specs::Whole::later_answer, crate::specs::Whole::after_tests, crate::specs::Whole::result_of, crate::specs::Whole::won_by))]
+#[tactic(auto, using(std::proofs::lemmas::Grind::common_steps, crate::proofs::Chain::later), unfolding(crate::specs::Whole::later_answer, crate::specs::Whole::after_tests, crate::specs::Whole::result_of, crate::specs::Whole::won_by))]
 fn won(
     o: RansacOptions,
     numbers: &[f64],
@@ -115,7 +115,7 @@ fn won(
 }
 
 // Writes what a winner gives: its record, and the indices of its marks, four bytes each.
-#[tactic(auto, using(std::proofs::lemmas::Grind::common_steps, crate::proofs::Giving::winner_wide, crate::proofs::Giving::indices_count, crate::proofs::Giving::indices_first, crate::proofs::Giving::indices_laid), unfolding(crate::specs::Whole::laid_over))]
+#[tactic(auto, using(std::proofs::lemmas::Grind::common_steps, crate::proofs::Giving::indices_count, crate::proofs::Giving::indices_first, crate::proofs::Giving::indices_laid))]
 fn give(o: RansacOptions, w: Winner, numbers: &[f64], winner: &mut [u8], indices: &mut [u8])
     requires numbers_len_bound { length numbers.now ≤ 8000 }
     requires in_bounds { 88 ≤ length winner.old }
@@ -123,7 +123,7 @@ fn give(o: RansacOptions, w: Winner, numbers: &[f64], winner: &mut [u8], indices
     ensures winner_after { winner.new ≡ laid_over (winner_bytes (view_winner w)) winner.old }
     ensures indices_after { indices.new ≡ laid_over (index_bytes o numbers.now w.model) indices.old }
 {
-    put_winner(&mut winner[0..88], w);
+    put_winner(winner, w);
     // no heap, so there is a place for each mark of the longest run
     let mut squares = [0.0; 2000];
     let mut places = [0; 2000];
@@ -132,7 +132,7 @@ fn give(o: RansacOptions, w: Winner, numbers: &[f64], winner: &mut [u8], indices
 }
 
 // The whole run: the winner written, or the refusal and nothing written.
-#[tactic(auto, using(crate::proofs::Chain::after_number, crate::proofs::Chain::after_none, crate::proofs::Chain::by_layers, crate::proofs::Chain::winner_fits, crate::proofs::Chain::indices_fit, crate::proofs::Chain::numbers_read), unfolding(rule::specs::Order::first_failed, rule::specs::Order::decided, records::specs::Options::options_answer, records::specs::Options::options_record, crate::specs::Whole::mark_bytes, crate::specs::Whole::number_of, crate::specs::Whole::written))]
+#[tactic(auto, using(crate::proofs::Chain::whole), unfolding(rule::specs::Order::first_failed, rule::specs::Order::decided, records::specs::Options::options_answer, records::specs::Options::options_record, crate::specs::Whole::mark_bytes, crate::specs::Whole::number_of, crate::specs::Whole::written))]
 pub fn salghemu_run(
     options: &[u8],
     marks: &[u8],
