@@ -2,7 +2,7 @@
 use mathlib.Core.Path.{◌≡◌, refl, sym, ap, ap₂, ◌∙◌}
 use mathlib.Core.List.{List, [], ◌∷◌, ◌++◌}
 use Prim.Native.Nat.{ℕ, zero, suc, ◌+◌, ◌-◌, ◌*◌, ◌/◌, ◌%◌, ◌^◌, ◌≤◌, ◌<◌}
-use native.Mathlib.Nat.{zero-add, le_of_lt, le_trans, mul_assoc, mul-zero, mul-suc, mul-le-mul_left, mod-add-div, mul_comm, div-one, le-div_iff_mul-le, div-lt_iff_lt-mul, div-div-eq-div-mul, pow-zero, pow-suc, pow-succ', suc-add}
+use native.Mathlib.Nat.{zero-add, le_of_lt, le_trans, mul_assoc, mul-zero, mul-suc, mul-le-mul_left, mod-add-div, mul_comm, div-one, le-div_iff_mul-le, div-lt_iff_lt-mul, div-div-eq-div-mul, pow-zero, pow-suc, pow-succ'}
 use native.Mathlib.Omega.{arith}
 use borrow.Rule.Slice.PartMut.{mid_of, put_mid}
 use lib.ListN.{length, get_or, take, drop}
@@ -11,12 +11,6 @@ use Rattle.rule.specs.Lists.{for_each, replaced, filled}
 use Rattle.rule.proofs.Lists.{Written, same, more, no_room, all-filled, replaced-length, replaced_twice, filled_is, filled-replaced, part_filled}
 use Rattle.fields.specs.Fields.{bytes_of}
 pub use Rattle.fields.specs.Wide.{bytes_wide, double_wide}
-
--- the lower bytes, then the higher
-pub bytes_add : (v w n : ℕ) → bytes_of (v + w) n ≡ bytes_of v n ++ bytes_of w (n / 256 ^ v)
-unfolding bytes_of
-bytes_add zero w n = rw (zero-add w, pow-zero 256, div-one n)
-bytes_add (suc v) w n = rw (suc-add v w, bytes_add v w (n / 256), div-div-eq-div-mul n 256 (256 ^ v), pow-succ' 256 v)
 
 -- what is above them does not change them
 higher : (w n k : ℕ) → bytes_of w (n + 256 ^ w * k) ≡ bytes_of w n

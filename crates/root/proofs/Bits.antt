@@ -298,6 +298,3 @@ rounded_is b n place root left p s h =
     let d = (digits54 b p.0).short in
     let x : (root + 2) / 4 ≡ (whole_root (scaled b * 2 ^ 54) + 1) / 2 = omega arith in
     record { low = omega arith; short = omega arith; is = ap₂ (λ (x y : ℕ). x + y) e x }
-
-pub scaled_short : (b n place : ℕ) → 0 < b → IsScaled b n place → n < 2 ^ 54
-scaled_short b n place pos s = rw s.digits (scaled_is b pos).most

@@ -1,21 +1,19 @@
 -- What a loop knows at place i of a list that it goes through from the front: what is still owed, from i on; or what is written, up to i.
 -- Assumes nothing.
-use mathlib.Core.Path.{◌≡◌, refl, sym, ap, ap₂, subst, ◌∙◌}
+use mathlib.Core.Path.{◌≡◌, refl, sym, ap, ap₂, ◌∙◌}
 use mathlib.Core.Bool.{Bool, true, false, cond, ◌&&◌}
 use mathlib.Core.Logic.{⊎_elim}
 use mathlib.Core.List.{List, [], ◌∷◌, ◌++◌, map, append_assoc, append-nil}
 use Prim.Native.Nat.{ℕ, zero, suc, ◌+◌, ◌-◌, ◌*◌, ◌≤◌, ◌<◌, zero-le}
-use native.Mathlib.Nat.{zero-add, add-zero, add_assoc, add_comm, le-add_right, mul-zero, one-mul, mul-suc, mul-le-mul_left, le_of_lt, le_of_eq}
+use native.Mathlib.Nat.{zero-add, add_assoc, add_comm, le-add_right, mul-zero, one-mul, mul-suc, mul-le-mul_left, le_of_lt, le_of_eq}
 use native.Mathlib.Numerals.{add-one}
 use native.Mathlib.Omega.{arith}
 use borrow.Author.Tests.{lt-ltb, le-ltb}
 use borrow.Rule.Slice.PartMut.{mid_of, put_mid, Post-is, mid_len}
 use lib.ListN.{length, get_or, take, drop, set, length-append, length-drop, drop_of_length-le}
-use lib.Seq.{drop-cons, take-suc, take-length, take_at, drop_at, drop-drop, length-take-le, set_split, sets, sets-eq}
-use lib.Ieee.{Float}
-use Rattle.rule.specs.Arith.{◌⊕◌}
+use lib.Seq.{drop-cons, take-suc, take-length, take_at, drop_at, drop-drop, length-take-le, set_split}
 use Rattle.rule.proofs.Tests.{le_or_gt}
-use Rattle.rule.specs.Lists.{every, count_of, those, places_from, sum_from, first_parts, for_each, replaced, filled}
+use Rattle.rule.specs.Lists.{count_of, places_from, first_parts, for_each, replaced, filled}
 
 -- ---- a place past the end
 
@@ -40,27 +38,6 @@ unfolding places_at
 one_by_one zero i l d h = drop_of_length-le l {i = i} (omega (arith, h))
 one_by_one (suc n) i l d h = drop-cons l i d (omega (arith, h)) ∙ ap (λ rest. get_or l i d ∷ rest) (one_by_one n (suc i) l d (omega (arith, h)))
 
--- ---- a test of every element
-
-module _ {A : Type 0} (test : A → Bool) (l : List A) (d : A) where
-  pub every_next : (i : ℕ) → i < length l → test (get_or l i d) ≡ true → every test (drop i l) ≡ every test (drop (i + 1) l)
-  every_next i h t = rw (add-one i, drop-cons l i d h, t)
-
-  pub every-stops : (i : ℕ) → i < length l → test (get_or l i d) ≡ false → false ≡ every test (drop i l)
-  every-stops i h t = rw (drop-cons l i d h, t)
-
-  pub every_end : (i : ℕ) → length l ≤ i → true ≡ every test (drop i l)
-  every_end i h = rw (drop_of_length-le l h)
-
--- ---- a sum
-
-module _ {A : Type 0} (term : A → Float) (l : List A) (d : A) where
-  pub sum_next : (sum : Float) (i : ℕ) → i < length l → sum_from term sum (drop i l) ≡ sum_from term (sum ⊕ term (get_or l i d)) (drop (i + 1) l)
-  sum_next sum i h = rw (add-one i, drop-cons l i d h)
-
-  pub sum_end : (sum : Float) (i : ℕ) → length l ≤ i → sum ≡ sum_from term sum (drop i l)
-  sum_end sum i h = rw (drop_of_length-le l h)
-
 -- ---- a count, those that pass, and their places
 
 module _ {A : Type 0} (test : A → Bool) (l : List A) (d : A) where
@@ -72,20 +49,6 @@ module _ {A : Type 0} (test : A → Bool) (l : List A) (d : A) where
   unfolding count_of
   count_end i h = rw (drop_of_length-le l h)
 
-  pub those_next : (i : ℕ) → i < length l → those test (drop i l) ≡ cond (test (get_or l i d)) (get_or l i d ∷ those test (drop (i + 1) l)) (those test (drop (i + 1) l))
-  those_next i h = rw (add-one i, drop-cons l i d h)
-
-  pub those_end : (i : ℕ) → length l ≤ i → those test (drop i l) ≡ []
-  those_end i h = rw (drop_of_length-le l h)
-
-  pub places_next : (k i : ℕ) → i < length l → places_from k test (drop i l) ≡ cond (test (get_or l i d)) (k ∷ places_from (k + 1) test (drop (i + 1) l)) (places_from (k + 1) test (drop (i + 1) l))
-  unfolding places_from
-  places_next k i h = rw (add-one i, drop-cons l i d h)
-
-  pub places_end : (k i : ℕ) → length l ≤ i → places_from k test (drop i l) ≡ []
-  unfolding places_from
-  places_end k i h = rw (drop_of_length-le l h)
-
 pub count_most : {A : Type 0} (test : A → Bool) (l : List A) → count_of test l ≤ length l
 unfolding count_of
 count_most test [] = zero-le
@@ -94,31 +57,6 @@ count_most test (a ∷ l) = go (test a) (count_most test l)
     go : (b : Bool) → count_of test l ≤ length l → cond b 1 0 + count_of test l ≤ suc (length l)
     go true h = omega arith
     go false h = omega arith
-
--- a count of some elements of a list: what is counted up to place i, and what is still owed
-module _ {A : Type 0} (test : A → Bool) (l : List A) (d : A) where
-  pub record Counted (count i : ℕ) : Type 0 where
-    pub small : count ≤ i
-    pub owed : count + count_of test (drop i l) ≡ count_of test l
-
-  pub counted_none : Counted 0 0
-  counted_none = record { small = zero-le; owed = zero-add (count_of test l) }
-
-  pub counted-all : {i count : ℕ} → length l ≤ i → Counted count i → count ≡ count_of test l
-  counted-all {i} {count} g k = sym (add-zero count) ∙ ap (λ x. count + x) (sym (count_end test l d i g)) ∙ k.owed
-
-  pub counted_next : {i k r : ℕ} {b : Bool} → i < length l → b ≡ test (get_or l i d) → (r ≡ cond b 1 0) × (r ≤ 1) → Counted k i → Counted (k + r) (i + 1)
-  counted_next {i} {k} {r} h answer e c =
-      record {
-        small = let s = c.small in let t = e.1 in omega (arith, s, t);
-        owed =
-            add_assoc k r (count_of test (drop (i + 1) l))
-            ∙ ap (λ x. k + x) (ap (λ x. x + count_of test (drop (i + 1) l)) (e.0 ∙ ap (λ x. cond x 1 0) answer) ∙ sym (count_next test l d i h))
-            ∙ c.owed;
-      }
-
-  pub counted_past : {i k : ℕ} → i < length l → test (get_or l i d) ≡ false → Counted k i → Counted k (i + 1)
-  counted_past {i} {k} h e c = subst (λ n. Counted n (i + 1)) (add-zero k) (counted_next h (sym e) (refl, zero-le) c)
 
 -- none, and a count that is asked for or not
 count_none : {A : Type 0} (l : List A) → count_of (λ a. false) l ≡ 0
@@ -154,11 +92,6 @@ module _ {A : Type 0} (w : ℕ) where
   part_at (suc n) (suc i) l d h = part_at n i (drop w l) d (omega (arith, h)) ∙ rw (drop-drop (w * i) w l, mul-suc w i, add_comm (w * i) w)
 
 -- ---- a list stored to at each of its places
-
-pub all_set : {A : Type 0} (vs l : List A) → length l ≡ length vs → sets l 0 vs ≡ vs
-all_set vs l h =
-    sets-eq vs l 0 (le_of_eq (zero-add (length vs) ∙ sym h))
-    ∙ rw (zero-add (length vs), drop_of_length-le l (le_of_eq h), append-nil vs)
 
 -- ---- a part of a list that is lent to its writer, from `at` to `end`
 
@@ -279,9 +212,6 @@ module _ {A : Type 0} (xs l : List A) where
   unfolding replaced
   filled-replaced h = rw (filled_is h, zero-add (length xs))
 
-  pub filled_sets : length xs ≤ length l → sets l 0 xs ≡ filled xs l
-  filled_sets h = sets-eq xs l 0 (rw (zero-add (length xs)) h) ∙ rw (filled_is h, zero-add (length xs))
-
 pub filled-length : {A : Type 0} (xs l : List A) → length (filled xs l) ≡ length l
 filled-length xs l = ⊎_elim fits not (le_or_gt (length xs) (length l))
   where
@@ -347,9 +277,6 @@ module _ {A : Type 0} (l entry : List A) where
   -- the first i elements are stored
   abbrev pub Stored : ℕ → List A → Type 0
   Stored i s = Written alone 1 alone_wide l entry i s
-
-  pub stored_none : Stored 0 entry
-  stored_none = none alone 1 alone_wide l entry
 
   module _ {n : ℕ} (count : n ≡ length l) where
     pub stored_no_room : length entry < n → entry ≡ filled l entry

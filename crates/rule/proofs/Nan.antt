@@ -1,21 +1,14 @@
 -- Before a double's bits are taken, or a double made of bits, a program asks that it is no NaN. These are the two tests, and what stands where
 -- they fail. Assumes nothing.
 use mathlib.Core.Path.{◌≡◌, refl, sym, ◌∙◌}
-use mathlib.Core.Bool.{true, false, not}
+use mathlib.Core.Bool.{true, not}
 use Prim.Native.Nat.{ℕ, ◌*◌, ◌%◌, ◌^◌, ◌≤◌, ◌<◌}
-use borrow.Author.Tests.{lt-ltb, eq-eqb}
+use borrow.Author.Tests.{lt-ltb}
 use lib.Dec.{T}
 use lib.Arith.{le→nltb}
-use lib.Ieee.{Float, nan, inf, fin, binary64, up, down, nan_bits, is_nan, of_bits, eq, ne}
+use lib.Ieee.{Float, nan, inf, fin, binary64, nan_bits, is_nan, of_bits}
 use lib.Ieee.Bits.{nan_bits_is, nan_bits_above}
 use Rattle.rule.proofs.Tests.{clash}
-
--- x != x fails
-pub no_nan_self : (x : Float) → ne x x ≡ false → T (not (is_nan x))
-unfolding ne eq is_nan
-no_nan_self nan h = clash refl h
-no_nan_self (inf s) h = tt
-no_nan_self (fin s m e) h = tt
 
 -- without its sign the pattern is at most infinity's
 pub no_nan_bits : (n : ℕ) → n % 2 ^ 63 ≤ 2047 * 2 ^ 52 → T (not (nan_bits binary64 n))
@@ -31,11 +24,3 @@ is_nan_lem (fin s m e) h = clash h refl
 
 pub nan_bits_lem : (n : ℕ) → 2047 * 2 ^ 52 < n % 2 ^ 63 → nan ≡ of_bits binary64 n
 nan_bits_lem n h = is_nan_lem (of_bits binary64 n) (sym (nan_bits_is binary64 n) ∙ nan_bits_above binary64 n ∙ lt-ltb (2047 * 2 ^ 52) (n % 2 ^ 63) h)
-
-pub nan_self : (x : Float) → ne x x ≡ true → nan ≡ x
-unfolding ne eq
-nan_self nan h = refl
-nan_self (inf true) h = clash h refl
-nan_self (inf false) h = clash h refl
-nan_self (fin true m e) h = clash h (rw (eq-eqb (m * up e * down e) (m * up e * down e) refl))
-nan_self (fin false m e) h = clash h (rw (eq-eqb (m * up e * down e) (m * up e * down e) refl))

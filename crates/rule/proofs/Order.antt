@@ -1,17 +1,13 @@
 -- A refusal order, test by test: the first that fails answers, and one that passes leaves the answer to the rest. Assumes nothing.
 use mathlib.Core.Path.{◌≡◌, refl, sym, ◌∙◌}
-use mathlib.Core.Logic.{⊎_elim}
 use mathlib.Core.Bool.{Bool, true, false, ◌&&◌, cond}
 use mathlib.Core.List.{List, [], ◌∷◌, ◌++◌}
-use Prim.Native.Nat.{ℕ, zero, suc, ◌≤◌, ◌<◌}
+use Prim.Native.Nat.{ℕ, zero, suc}
 use native.Mathlib.Omega.{arith}
-use borrow.Author.Tests.{lt-ltb, le-ltb}
 use lib.Dec.{T, ltb}
 use lib.Ieee.Fits.{and_i, and_l, and_r}
-use Rattle.rule.specs.Refusal.{ROOM}
 use Rattle.rule.specs.Answer.{refused, gives}
-use Rattle.rule.specs.Order.{Test, first_failed, decided, if_passed, room}
-use Rattle.rule.proofs.Tests.{le_or_gt}
+use Rattle.rule.specs.Order.{Test, first_failed, decided, if_passed}
 
 -- ---- one test
 
@@ -22,20 +18,6 @@ stops t ts h = rw h
 pub passes : (t : Test) (ts : List Test) → t.fails ≡ false → first_failed ts ≡ first_failed (t ∷ ts)
 unfolding first_failed
 passes t ts h = rw h
-
--- ---- room, the last test of an order
-
-module _ (needed places : ℕ) where
-  pub too_small : places < needed → ROOM ≡ first_failed (room needed places ∷ [])
-  unfolding first_failed room
-  too_small h = rw (lt-ltb places needed h)
-
-  pub fits_room : first_failed (room needed places ∷ []) ≡ 0 → needed ≤ places
-  fits_room h = ⊎_elim (λ g. g) (λ g. absurd (let e : ◌≡◌ {A = ℕ} ROOM 0 = too_small g ∙ h in omega (arith, e))) (le_or_gt needed places)
-
-  pub large_enough : needed ≤ places → 0 ≡ first_failed (room needed places ∷ [])
-  unfolding first_failed room
-  large_enough h = rw (le-ltb places needed h)
 
 -- ---- the tests that orders begin with, as one. Each of their numbers is above 0, so 0 says that all of them passed.
 

@@ -18,10 +18,6 @@ pub and_true : (b : Bool) → (b && true) ≡ b
 and_true true = refl
 and_true false = refl
 
-pub and_false : (b : Bool) → (b && false) ≡ false
-and_false true = refl
-and_false false = refl
-
 pub or_left : (a b : Bool) → T a → T (a || b)
 or_left true b t = tt
 or_left false b t = absurd t
@@ -41,10 +37,3 @@ is_test false h = absurd (true≢false (sym h))
 -- a test cannot both pass and fail
 pub clash : {A : Type 0} {b : Bool} → b ≡ true → b ≡ false → A
 clash p q = absurd (true≢false (sym p ∙ q))
-
--- the flag r of a test b, in a branch on its negation `!r`
-pub failed : {r b : Bool} → r ≡ b → r ≡ false → b ≡ false
-failed e h = sym e ∙ h
-
-pub held : {r b : Bool} → r ≡ b → r ≡ true → b ≡ true
-held e h = sym e ∙ h

@@ -7,9 +7,6 @@ use Rattle.rule.specs.declared.Refusal.TheVariants as Refusals
 use Rattle.rule.specs.Refusal.{number_of}
 use Rattle.rule.specs.Answer.{Answer, refused, gives, told, answered}
 
-pub by_case : {E A X : Type 0} (view : E → Answer A) (read : Answer A → X) {q k : E} {answer : Answer A} → q ≡ k → view q ≡ answer → read (view k) ≡ read answer
-by_case view read p e = ap (λ z. read (view z)) (sym p) ∙ ap read e
-
 -- A view that can be taken back tells any two values apart, so a contract on the view fixes the value.
 pub told_apart : {E A : Type 0} (view : E → A) (back : A → E) → ((x : E) → back (view x) ≡ x) → (x y : E) → view x ≡ view y → x ≡ y
 told_apart view back undone x y h = sym (undone x) ∙ ap back h ∙ undone y

@@ -2,8 +2,8 @@
 use mathlib.Core.Path.{◌≡◌, refl, sym, ap, subst, ◌∙◌}
 use mathlib.Core.Bool.{Bool, true, false, not, ◌&&◌, ◌||◌, beq}
 use Prim.Native.Nat.{ℕ, zero, suc, ◌*◌, ◌<◌}
-use native.Mathlib.Nat.{add-zero, mul-pos, zero-mul, zero-lt-suc, lt_irrefl}
-use borrow.Author.Tests.{lt-ltb, le-ltb, ne_eqb}
+use native.Mathlib.Nat.{mul-pos, zero-mul, zero-lt-suc, lt_irrefl}
+use borrow.Author.Tests.{lt-ltb, ne_eqb}
 use lib.Dec.{ltb, eqb}
 use lib.Pow.{pow_pos}
 use lib.IntN.{ℤ}
@@ -42,23 +42,9 @@ zero_lt true m e = refl
 zero_lt false zero e = simp zero-mul
 zero_lt false (suc m) e = simp zero-mul (lt-ltb 0 (suc m * up e * 1) (size_one m e) ∙ sym (lt-ltb 0 (suc m) (zero-lt-suc m)))
 
-pub lt_zero : (s : Bool) (m : ℕ) (e : ℤ) → lt (fin s m e) (of_bits binary64 0) ≡ (s && ltb 0 m)
-unfolding lt of_bits
-lt_zero true zero e = simp zero-mul
-lt_zero true (suc m) e = simp (zero-mul, add-zero) (lt-ltb 0 (suc m * up e * 1) (size_one m e) ∙ sym (lt-ltb 0 (suc m) (zero-lt-suc m)))
-lt_zero false m e = simp zero-mul (le-ltb (m * up e * 1) 0 Prim.Native.Nat.zero-le)
-
-pub eq_zero : (s : Bool) (m : ℕ) (e : ℤ) → eq (fin s (suc m) e) (of_bits binary64 0) ≡ false
-unfolding eq of_bits
-eq_zero s m e = level_not s false (suc m * up e * 1) (0 * down e) (λ h. lt_irrefl 0 (subst (λ (x : ℕ). 0 < x) (h ∙ zero-mul (down e)) (size_one m e)))
-
 pub zero_eq : (s : Bool) (m : ℕ) (e : ℤ) → eq (of_bits binary64 0) (fin s (suc m) e) ≡ false
 unfolding eq of_bits
 zero_eq s m e = level_not false s (0 * down e) (suc m * up e * 1) (λ h. lt_irrefl 0 (subst (λ (x : ℕ). 0 < x) (sym h ∙ zero-mul (down e)) (size_one m e)))
-
-pub eq_zeros : (s : Bool) (e : ℤ) → eq (fin s zero e) (of_bits binary64 0) ≡ true
-unfolding eq of_bits
-eq_zeros s e = rw (zero-mul (down e), no_size_one e) (level_zeros s false)
 
 pub zeros_eq : (s : Bool) (e : ℤ) → eq (of_bits binary64 0) (fin s zero e) ≡ true
 unfolding eq of_bits

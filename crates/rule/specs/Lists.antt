@@ -1,6 +1,6 @@
 -- Lists, looked through from the front: a test of every element, a count, a sum, the parts that a list is cut into, and what is written for each element
 -- or into a part.
-use Rattle.std.specs.Prelude.{Bool, true, ◌&&◌, cond, List, [], ◌∷◌, ◌++◌, ℕ, zero, suc, ◌+◌, ◌/◌, ltb, length, take, drop, filter, fold, Float}
+use Rattle.std.specs.Prelude.{Bool, cond, List, [], ◌∷◌, ◌++◌, ℕ, zero, suc, ◌+◌, ◌/◌, ltb, length, take, drop, filter, fold, Float}
 use Rattle.std.specs.List.{list_all}
 use Rattle.rule.specs.Arith.{◌⊕◌}
 

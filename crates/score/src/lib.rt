@@ -57,7 +57,7 @@ pub fn rms(thresh: f64, squares: &[f64], count: u32) -> f64
     if count == 0 {
         return f64::INFINITY;
     }
-    root::sqrt(sum_squares(Limits::of(thresh), squares) / count as f64)
+    root::sqrt(sum_squares(Limits::of(thresh), squares) / f64::from(count))
 }
 
 // No more than the sum of the squares, and hardly less unless it is `enough`. No root is taken.
@@ -82,14 +82,14 @@ pub fn rms_if_less(thresh: f64, squares: &[f64], count: u32, best: f64) -> Optio
     ensures { result ≡ less_of (rms_of count (squares_in thresh (map root_of squares.now))) best }
 {
     if count != 0 {
-        let n = count as f64;
+        let n = f64::from(count);
         let least = least_sum(Limits::lower_of(thresh), squares, best * best * n);
         if best <= root::sqrt(least / n) {
             return None;
         }
     }
     let rms = rms(thresh, squares, count);
-    if rms < best { Some(rms) } else { None }
+    (rms < best).then_some(rms)
 }
 
 // Writes the places of the squares with a root within the threshold to the front of `indices`,

@@ -1,6 +1,6 @@
 -- `root::six_digits` meets its contract. Assumes nothing.
 use Rattle.root.specs.Digits.{AllHold}
-use Rattle.std.proofs.Common.{◌≡◌, ◌+◌, ◌/◌, ◌*◌, ◌^◌}
+use Rattle.std.proofs.Common.{◌≡◌, ◌+◌, ◌/◌, ◌^◌}
 use Rattle.root.proofs.six_digits.Given as goal
 
 abbrev pub invariant-loop-more : goal.invariant-loop-more
