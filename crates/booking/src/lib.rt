@@ -39,7 +39,7 @@ pub fn bound_after(stop: u32, read: u32, max_iters: u32) -> u32
 }
 
 // Whether a scored trial wins: its count is higher than the winner's so far, or equal and its root
-// mean square less.
+// mean square less. (Two counts and two root mean squares, as in the source.)
 #[tactic(auto, unfolding(book::specs::Book::is_better))]
 pub fn is_better_model(count: u32, rms: f64, best_count: u32, best_rms: f64) -> bool
     ensures { result ≡ is_better count rms best_count best_rms }

@@ -196,7 +196,7 @@ fn show_normalized(rt: &impl Print, name: &str, points: Points, room: usize) -> 
     }
 }
 
-// The refusal, or the first mark's two rows.
+// The refusal, or the first mark's two rows, with `room` places lent.
 fn show_rows(rt: &impl Print, name: &str, marks: &[f64], room: usize) -> io::Result<()>
     requires { room ≤ 72 }
 {

@@ -1,5 +1,5 @@
 // The opening of a run (document 01, 'Options' and 'Refusals', and document 02, order 3): tests 1 to 4,
-// 16, and 5 to 8.
+// 16, and 5 to 8. (Marks and stop entries are two lists, as document 01 hands them to an opening.)
 ghost use Rattle.std.specs.Prelude.{◌≡◌};
 ghost use Rattle.rule.specs.Answer.{told};
 ghost use Rattle.pick.specs.Run.{view_state};

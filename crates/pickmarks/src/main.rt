@@ -42,7 +42,8 @@ struct Run<'a> {
 impl<'a> Run<'a> {
     // The next trial of the file: none at its end. One that is cut off goes to `step` as it is, and is
     // refused for its length. The opening tested the marks, and `step` doesn't test them again: it
-    // answers as `trial` does (`by_steps` of crates/demand/specs/Demand.antt).
+    // answers as `trial` does (`by_steps` of crates/demand/specs/Demand.antt). No heap, so there are
+    // places for a record, and a number of those that were read.
     fn next_trial<F: Read>(self, file: &mut F, s: State) -> Option<Tried> {
         let mut record = [0u8; 152];
         let len = reading::read_full(file, &mut record);

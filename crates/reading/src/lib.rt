@@ -8,7 +8,7 @@ ghost use Rattle.std.specs.Io.KnownBytes.{Consumes};
 use std::io::Read;
 
 // Reads until the buffer is full or the reader at its end, and answers how many bytes at the buffer's
-// front are of the reader. A read that fails is the end.
+// front are of the reader, as std's `read` does. A read that fails is the end.
 #[tactic(auto, using(crate::proofs::Parts::read_more))]
 pub fn read_full<F: Read>(file: &mut F, buffer: &mut [u8]) -> usize
     ensures bound { result ≤ length buffer.new }

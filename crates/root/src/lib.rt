@@ -71,7 +71,8 @@ fn next_digit(d: Digits, unit: u64) -> Digits
 
 // A digit more of each root, where `count` of its 54 are found. Each is the root of n * 2 ^ 54, for an n
 // of a list: the digits of two roots side by side take less time than one root's after the other's. (The
-// numbers and the count are there for the contract, and compile to nothing. By index: after `iter_mut` a
+// numbers and the count are there for the contract, and compile to nothing. A struct of all four would
+// have to show, wherever it is made, that arrays of this length fit into memory. By index: after `iter_mut` a
 // proof knows no element, and in `map` or `array::from_fn` each closure needs clauses of its own.)
 fn next_digits<const N: usize>(
     n: [u64; N],

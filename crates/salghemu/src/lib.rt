@@ -91,6 +91,7 @@ fn check_later(
 }
 
 // The winner over marks of the right length, decoded, if the lent outputs have room for what it gives.
+// (The lists as C hands them over, here and where what it gives is written.)
 #[tactic(auto, using(std::proofs::lemmas::Grind::common_steps, crate::proofs::Chain::later), unfolding(crate::specs::Whole::later_answer, crate::specs::Whole::after_tests, crate::specs::Whole::result_of, crate::specs::Whole::won_by))]
 fn won(
     o: RansacOptions,

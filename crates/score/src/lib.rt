@@ -1,7 +1,9 @@
 // How distances agree with a threshold (document 01, 'Trials'): how many are within it, the root mean
 // square of those, and which they are. All is read from a list of the distances' squares, which a
 // family's measuring has filled: nothing here knows a model or a mark. (In the terms of the field, the
-// support of a hypothesis.) Roots are the cost, so none is taken that the answer doesn't need.
+// support of a hypothesis.) Roots are the cost, so none is taken that the answer doesn't need. (A
+// threshold and its squares go by themselves to each function: a struct of the two would be made at each
+// call, of options that stand and a list that is lent.)
 #![tactic(auto)]
 
 mod limits;
@@ -95,6 +97,7 @@ pub fn rms_if_less(thresh: f64, squares: &[f64], count: u32, best: f64) -> Optio
 // Writes the places of the squares with a root within the threshold to the front of `indices`,
 // ascending, and answers how many; nothing where it has not a place for each square, or there are
 // over 2,000. It answers 0 then, as where none is within: it can't fail, and who calls it has the room.
+// (How many, beside a list that is lent: document 01's form of an index list.)
 #[tactic(auto, using(std::proofs::lemmas::Grind::common_steps, crate::proofs::Walk::placing), unfolding(crate::specs::Places::index_count, crate::specs::Places::indexed, crate::specs::Places::cramped))]
 pub fn write_inliers(thresh: f64, squares: &[f64], indices: &mut [u32]) -> usize
     ensures value { result ≡ index_count thresh (map root_of squares.now) indices.old }

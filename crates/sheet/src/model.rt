@@ -85,7 +85,8 @@ pub fn squared_residual(to: Point, pixel: Point, ratio: f64) -> f64
 }
 
 // The square of the distance, for any numbers: none where the mark is beyond, that is unless s > 0. It
-// is worked out either way, so that the compiler may make it a choice of two numbers and no jump.
+// is worked out either way, so that the compiler may make it a choice of two numbers and no jump. (Model,
+// mark and ratio are arguments of a distance by document 01, and by 02, order 3.)
 #[tactic(auto, unfolding(crate::specs::Distance::squared_distance_of, crate::specs::Distance::beyond_under))]
 pub fn squared_distance(h: Model, m: Mark, ratio: f64) -> Option<f64>
     ensures { result ≡ squared_distance_of ratio h m }
