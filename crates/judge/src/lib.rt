@@ -1,6 +1,7 @@
 // What a trial comes to by itself (document 01, 'Trials'): its tests but for the end of the run and
 // the range of the marks' numbers, and the judging of its record over the marks. Each model that is
-// asked for is measured once, into a list that is lent; all the rest is read from that list.
+// asked for is measured once, and a fit again whose refit falls short, into a list that is lent; all the
+// rest is read from that list.
 #![tactic(auto)]
 
 mod run;

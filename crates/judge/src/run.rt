@@ -11,8 +11,8 @@ use crate::{Judgement, Support, Verdict};
 use records::{Fitted, RansacOptions};
 use sheet::Model;
 
-// The options, and marks and stop entries that a call's tests have passed: few enough marks for a list
-// of squares.
+// The options, and marks and stop entries that have passed a call's tests: few enough marks for a list of
+// squares.
 #[derive(Clone, Copy)]
 pub(crate) struct Run<'a> {
     pub options: RansacOptions,
