@@ -1,6 +1,5 @@
 -- One measuring of marks into a lent list, and what is read off it. Assumes nothing.
 use mathlib.Core.Path.{◌≡◌, sym, ◌∙◌}
-use mathlib.Core.Bool.{Bool, true, false}
 use mathlib.Core.List.{List, map}
 use Prim.Native.Nat.{ℕ, ◌≤◌}
 use native.Mathlib.Omega.{arith}
@@ -11,7 +10,6 @@ use Rattle.std.proofs.lemmas.List.{length-take}
 use Rattle.rule.specs.Lists.{filled}
 use Rattle.rule.proofs.Lists.{count_most, filled_front, filled_again}
 use Rattle.root.specs.Root.{root_of}
-use Rattle.numbers.specs.Measure.{if_counted}
 use Rattle.sheet.specs.Marks.{marks_of}
 use Rattle.sheet.specs.Distance.{beyond_under}
 use Rattle.sheet.specs.declared.model.Model.{Model}
@@ -35,17 +33,13 @@ within_small thresh n s =
     let k = length-map (take n s) root_of in
     omega (arith, m, k, length-take n s)
 
-pub found_all : (counting : Bool) (l : List Float) (h : Model) (entry : List Float) → length (marks_of l) ≤ length entry → beyond_found counting l h entry ≡ if_counted counting (beyond_of l h)
+pub found_all : (l : List Float) (h : Model) (entry : List Float) → length (marks_of l) ≤ length entry → beyond_found l h entry ≡ beyond_of l h
 unfolding beyond_found
-found_all counting l h entry room = rw (le-ltb (length entry) (length (marks_of l)) room)
+found_all l h entry room = rw (le-ltb (length entry) (length (marks_of l)) room)
 
-pub found_small : (counting : Bool) (l : List Float) (h : Model) (entry : List Float) → length (marks_of l) ≤ length entry → beyond_found counting l h entry ≤ length (marks_of l)
-unfolding beyond_of if_counted
-found_small counting l h entry room = rw (found_all counting l h entry room) (go counting)
-  where
-    go : (b : Bool) → if_counted b (beyond_of l h) ≤ length (marks_of l)
-    go true = count_most (beyond_under h) (marks_of l)
-    go false = omega arith
+pub found_small : (l : List Float) (h : Model) (entry : List Float) → length (marks_of l) ≤ length entry → beyond_found l h entry ≤ length (marks_of l)
+unfolding beyond_of
+found_small l h entry room = rw (found_all l h entry room) (count_most (beyond_under h) (marks_of l))
 
 -- of one measuring after another the last is left
 pub measured_twice : (ratio : Float) (l entry : List Float) (a b : Model) → filled (squares_of ratio l b) (filled (squares_of ratio l a) entry) ≡ filled (squares_of ratio l b) entry

@@ -10,7 +10,6 @@ ghost use Rattle.std.specs.Prelude.{◌≡◌, ◌≤◌, OnOk, length};
 ghost use Rattle.rule.specs.Answer.{refusal_in};
 ghost use Rattle.rule.specs.Lists.{filled};
 ghost use Rattle.rule.specs.Order.{first_failed};
-ghost use Rattle.numbers.specs.Measure.{if_counted};
 ghost use Rattle.measure.specs.Distances.{distances_of, squares_of};
 ghost use Rattle.score.specs.Places.{index_count, indexed};
 ghost use Rattle.judge.specs.Judging.{call_of, tested_marks, tested_tests, rms_under, judge_tested, beyond_by, beyond_in, squares_left, standing_of, support_with, view_finding, view_verdict};
@@ -93,19 +92,18 @@ impl Support {
 }
 
 // Judges a trial of a run of `n` marks but for the root mean square, and leaves the squares of the
-// model that stands at the front of `squares`. The marks beyond are counted if `counting` says so, else
-// their number is 0. The numbers of the marks are not tested: whoever calls has done it, once for a run.
-#[tactic(auto, using(crate::proofs::Ways::judge_in_turn, crate::proofs::Ways::beyond_in_turn, crate::proofs::Ways::squares_in_turn), unfolding(numbers::specs::Measure::if_counted))]
+// model that stands at the front of `squares`. The numbers of the marks are not tested: whoever calls has
+// done it, once for a run.
+#[tactic(auto, using(crate::proofs::Ways::judge_in_turn, crate::proofs::Ways::beyond_in_turn, crate::proofs::Ways::squares_in_turn))]
 pub fn count_support(
     o: RansacOptions,
     n: usize,
     call: Call,
     squares: &mut [f64; 2000],
-    counting: bool,
 ) -> Result<Judgement<Support>, Refusal>
     ensures few_enough { OnOk result (n ≤ 2000) }
     ensures finding_value { view_finding (rms_under o call.entry.marks.now) result ≡ judge_tested o n (call_of call.entry) }
-    ensures beyond_value { beyond_in result ≡ if_counted counting (beyond_by (tested_tests n (call_of call.entry)) (call_of call.entry)) }
+    ensures beyond_value { beyond_in result ≡ beyond_by (tested_tests n (call_of call.entry)) (call_of call.entry) }
     ensures squares_after { squares.new ≡ squares_left o n (call_of call.entry) squares.old }
 {
     call.check(n)?;
@@ -115,18 +113,18 @@ pub fn count_support(
         marks: call.marks,
         stops: call.stops,
     };
-    Ok(run.judge_trial(trial, squares, counting))
+    Ok(run.judge_trial(trial, squares))
 }
 
 // Judges a trial of a run of `n` marks. The numbers of the marks are not tested either.
-#[tactic(auto, using(crate::proofs::Left::support_scored), unfolding(numbers::specs::Measure::if_counted))]
+#[tactic(auto, using(crate::proofs::Left::support_scored))]
 pub fn judge(o: RansacOptions, n: usize, call: Call) -> Result<Judgement<Standing>, Refusal>
     ensures verdict_value { view_verdict result ≡ judge_tested o n (call_of call.entry) }
     ensures beyond_value { beyond_in result ≡ beyond_by (tested_tests n (call_of call.entry)) (call_of call.entry) }
 {
     // no heap, so there is a place for each mark of the longest run
     let mut squares = [0.0; 2000];
-    let found = count_support(o, n, call, &mut squares, true)?;
+    let found = count_support(o, n, call, &mut squares)?;
     let beyond = found.beyond;
     let verdict = match found.verdict {
         Verdict::Empty => Verdict::Empty,
@@ -156,6 +154,6 @@ pub fn write_inliers(
     if squares.len() < n {
         return 0;
     }
-    measure::squared_residuals(h, o.ratio, marks, squares, false);
+    measure::squared_residuals(h, o.ratio, marks, squares);
     score::write_inliers(o.thresh, &squares[..n], indices)
 }

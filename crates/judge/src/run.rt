@@ -1,7 +1,6 @@
 // A fit and its refit over the marks of a run.
 ghost use Rattle.std.specs.Prelude.{◌≡◌, ◌≤◌, Option, length};
 ghost use Rattle.rule.specs.Lists.{filled};
-ghost use Rattle.numbers.specs.Measure.{if_counted};
 ghost use Rattle.book.specs.Score.{count_under, stop_at, judge_trial, beyond_fit};
 ghost use Rattle.records.specs.Trial.{refitted_by, view_recorded};
 ghost use Rattle.measure.specs.Distances.{distances_of, beyond_of, squares_of};
@@ -51,16 +50,15 @@ impl<'a> Run<'a> {
         }
     }
 
-    // Measures a model, and counts the marks that are within the threshold under it and, if they are to
-    // be counted, those beyond.
+    // Measures a model, and counts the marks that are within the threshold under it and those beyond.
     #[tactic(auto, using(crate::proofs::Measured::counts), unfolding(book::specs::Score::count_under, crate::specs::Judging::rule_of))]
-    fn count_under(self, h: Model, squares: &mut [f64; 2000], counting: bool) -> Counted
+    fn count_under(self, h: Model, squares: &mut [f64; 2000]) -> Counted
         ensures within_value { result.within ≡ count_under (rule_of self.entry.options) (distances_of self.entry.options.ratio self.entry.marks.now) self.entry.stops.now h }
-        ensures beyond_value { result.beyond ≡ if_counted counting (beyond_of self.entry.marks.now h) }
+        ensures beyond_value { result.beyond ≡ beyond_of self.entry.marks.now h }
         ensures squares_after { squares.new ≡ filled (squares_of self.entry.options.ratio self.entry.marks.now h) squares.old }
     {
         let o = self.options;
-        let beyond = measure::squared_residuals(h, o.ratio, self.marks, squares, counting);
+        let beyond = measure::squared_residuals(h, o.ratio, self.marks, squares);
         let n = sheet::mark_count(self.marks);
         let within = score::count_inliers(o.thresh, &squares[..n]);
         Counted {
@@ -70,15 +68,10 @@ impl<'a> Run<'a> {
     }
 
     // Judges a trial but for the root mean square.
-    #[tactic(auto, unfolding(book::specs::Score::judge_trial, book::specs::Score::beyond_fit, numbers::specs::Measure::if_counted, crate::specs::Judging::squares_after))]
-    pub fn judge_trial(
-        self,
-        trial: Option<Fitted>,
-        squares: &mut [f64; 2000],
-        counting: bool,
-    ) -> Judgement<Support>
+    #[tactic(auto, unfolding(book::specs::Score::judge_trial, book::specs::Score::beyond_fit, crate::specs::Judging::squares_after))]
+    pub fn judge_trial(self, trial: Option<Fitted>, squares: &mut [f64; 2000]) -> Judgement<Support>
         ensures verdict_value { judged_as (supported (rms_under self.entry.options self.entry.marks.now)) result.verdict ≡ judge_trial (rule_of self.entry.options) (distances_of self.entry.options.ratio self.entry.marks.now) self.entry.stops.now (view_recorded trial) }
-        ensures beyond_value { result.beyond ≡ if_counted counting (beyond_fit (beyond_of self.entry.marks.now) (view_recorded trial)) }
+        ensures beyond_value { result.beyond ≡ beyond_fit (beyond_of self.entry.marks.now) (view_recorded trial) }
         ensures squares_after { squares.new ≡ squares_after self.entry.options self.entry.marks.now self.entry.stops.now (view_recorded trial) squares.old }
     {
         match trial {
@@ -86,7 +79,7 @@ impl<'a> Run<'a> {
                 verdict: Verdict::Empty,
                 beyond: 0,
             },
-            Some(t) => self.judge_fit(t.fit, t.refit, squares, counting),
+            Some(t) => self.judge_fit(t.fit, t.refit, squares),
         }
     }
 
@@ -100,14 +93,13 @@ impl<'a> Run<'a> {
         fit: Model,
         refit: Option<Model>,
         squares: &mut [f64; 2000],
-        counting: bool,
     ) -> Judgement<Support>
         ensures verdict_value { judged_as (supported (rms_under self.entry.options self.entry.marks.now)) result.verdict ≡ judge_trial (rule_of self.entry.options) (distances_of self.entry.options.ratio self.entry.marks.now) self.entry.stops.now (refitted_by fit refit) }
-        ensures beyond_value { result.beyond ≡ if_counted counting (beyond_fit (beyond_of self.entry.marks.now) (refitted_by fit refit)) }
+        ensures beyond_value { result.beyond ≡ beyond_fit (beyond_of self.entry.marks.now) (refitted_by fit refit) }
         ensures squares_after { squares.new ≡ squares_after self.entry.options self.entry.marks.now self.entry.stops.now (refitted_by fit refit) squares.old }
     {
         let least = self.options.min_inliers;
-        let first = self.count_under(fit, squares, counting);
+        let first = self.count_under(fit, squares);
         let beyond = first.beyond;
         if first.within < least {
             return Judgement {
@@ -125,9 +117,9 @@ impl<'a> Run<'a> {
         if !self.options.refit {
             return fit_stands;
         }
-        let again = self.count_under(refit, squares, false);
+        let again = self.count_under(refit, squares);
         if again.within < least {
-            measure::squared_residuals(fit, self.options.ratio, self.marks, squares, false);
+            measure::squared_residuals(fit, self.options.ratio, self.marks, squares);
             return fit_stands;
         }
         Judgement {

@@ -1,7 +1,7 @@
 -- The squares of a list of marks: one for each mark, and the distances are their roots; and the walk that stores them and counts the marks that are beyond.
 -- Assumes nothing.
 use mathlib.Core.Path.{◌≡◌, refl, sym, ap, ◌∙◌}
-use mathlib.Core.Bool.{Bool, true, false, cond, ◌&&◌}
+use mathlib.Core.Bool.{Bool, true, false, cond}
 use mathlib.Core.List.{List, [], ◌∷◌, ◌++◌, map}
 use Prim.Native.Nat.{ℕ, ◌+◌, ◌*◌, ◌≤◌, ◌<◌}
 use native.Mathlib.Omega.{arith}
@@ -11,11 +11,11 @@ use lib.Ieee.{Float, of_bits}
 use Rattle.std.specs.Prelude.{Some, None, is_none, unwrap_or}
 use Rattle.std.specs.Int.{from_bool}
 use Rattle.rule.specs.Lists.{count_of, for_each, filled}
-use Rattle.rule.proofs.Lists.{count_next, count_end, count_asked, alone, stored_no_room, stored_more, stored_all}
+use Rattle.rule.proofs.Lists.{count_next, count_end, alone, stored_no_room, stored_more, stored_all}
 use Rattle.root.specs.Root.{root_of}
 use Rattle.numbers.specs.Constants.{infinity}
 use Rattle.sheet.specs.Marks.{marks_of, mark_at, no_mark, point_of}
-use Rattle.numbers.specs.Measure.{beyond, distance, as_distance, if_counted}
+use Rattle.numbers.specs.Measure.{beyond, distance, as_distance}
 use Rattle.sheet.specs.Distance.{projection_of, beyond_under, squared_residual, squared_distance_of, measure_of, distance_of}
 use Rattle.sheet.specs.declared.marks.Mark.{Mark}
 use Rattle.sheet.specs.declared.marks.Side.TheVariants.{Sheet, Pixel}
@@ -85,14 +85,14 @@ module _ (ratio : Float) (l : List Float) (h : Model) (entry : List Float) where
     unfolding squares_after
     squares_all i e = stored_all _ _ many room (omega (arith, e)) (omega (arith, e)) (record { is = refl })
 
-module _ (counting : Bool) (ratio : Float) (l : List Float) (h : Model) where
+module _ (ratio : Float) (l : List Float) (h : Model) where
   abbrev far : Mark → Bool
-  far m = counting && is_none (squared_distance_of ratio h m)
+  far m = is_none (squared_distance_of ratio h m)
 
   unfoldable pub beyond_from : ℕ → ℕ
   beyond_from i = count_of far (drop i (marks_of l))
 
-  pub beyond_next : (i : ℕ) → i < length (marks_of l) → beyond_from i ≡ from_bool (counting && is_none (squared_distance_of ratio h (mark_at l i))) + beyond_from (i + 1)
+  pub beyond_next : (i : ℕ) → i < length (marks_of l) → beyond_from i ≡ from_bool (is_none (squared_distance_of ratio h (mark_at l i))) + beyond_from (i + 1)
   unfolding beyond_from mark_at
   beyond_next i inside = count_next far (marks_of l) no_mark i inside ∙ ap (λ k. k + beyond_from (i + 1)) (counts (far (mark_at l i)))
     where
@@ -105,19 +105,13 @@ module _ (counting : Bool) (ratio : Float) (l : List Float) (h : Model) where
   beyond_end i h = count_end far (marks_of l) no_mark i h
 
   module _ (entry : List Float) where
-    pub beyond_no_room : length entry < length (marks_of l) → 0 ≡ beyond_found counting l h entry
-    unfolding beyond_found if_counted
-    beyond_no_room short = rw (lt-ltb (length entry) (length (marks_of l)) short) (go counting)
-      where
-        go : (b : Bool) → ◌≡◌ {A = ℕ} 0 (cond b 0 0)
-        go true = refl
-        go false = refl
+    pub beyond_no_room : length entry < length (marks_of l) → 0 ≡ beyond_found l h entry
+    unfolding beyond_found
+    beyond_no_room short = rw (lt-ltb (length entry) (length (marks_of l)) short) refl
 
-    pub beyond_all : length (marks_of l) ≤ length entry → beyond_from 0 ≡ beyond_found counting l h entry
-    unfolding beyond_from beyond_found beyond_of if_counted
-    beyond_all room =
-        rw (le-ltb (length entry) (length (marks_of l)) room)
-        (count_asked counting (λ m. is_none (squared_distance_of ratio h m)) (marks_of l) ∙ (λ i. cond counting (count_of (λ m. none_beyond ratio h m i) (marks_of l)) 0))
+    pub beyond_all : length (marks_of l) ≤ length entry → beyond_from 0 ≡ beyond_found l h entry
+    unfolding beyond_from beyond_found beyond_of
+    beyond_all room = rw (le-ltb (length entry) (length (marks_of l)) room) (λ i. count_of (λ m. none_beyond ratio h m i) (marks_of l))
 
 pub one_more : (b : Bool) → from_bool b ≤ 1
 one_more true = omega arith

@@ -1,9 +1,9 @@
 -- Document 01, 'Trials', and document 02, orders 2 and 3: the distances of a list of marks under a sheet's model, the squares that they are the roots of, and how many
 -- of the marks are beyond.
-use Rattle.std.specs.Prelude.{Bool, cond, List, map, ℕ, ltb, length, Float}
+use Rattle.std.specs.Prelude.{cond, List, map, ℕ, ltb, length, Float}
 use Rattle.rule.specs.Lists.{count_of}
 use Rattle.numbers.specs.Constants.{infinity}
-use Rattle.numbers.specs.Measure.{as_distance, if_counted}
+use Rattle.numbers.specs.Measure.{as_distance}
 use Rattle.sheet.specs.Marks.{marks_of, point_of}
 use Rattle.sheet.specs.Distance.{projection_of, beyond_under, squared_residual, distance_of, plain_measure_of}
 use Rattle.sheet.specs.declared.marks.Mark.{Mark}
@@ -29,6 +29,6 @@ squared_of ratio h m =
 unfoldable pub squares_of : (ratio : Float) → List Float → Model → List Float
 squares_of ratio l h = map (squared_of ratio h) (marks_of l)
 
--- how many are found beyond: none where they aren't counted, or where the lent list has not a place for each mark, since nothing is measured then
-unfoldable pub beyond_found : (counting : Bool) → List Float → Model → (entry : List Float) → ℕ
-beyond_found counting l h entry = if_counted counting (cond (ltb (length entry) (length (marks_of l))) 0 (beyond_of l h))
+-- how many are found beyond: none where the lent list has not a place for each mark, since nothing is measured then
+unfoldable pub beyond_found : List Float → Model → (entry : List Float) → ℕ
+beyond_found l h entry = cond (ltb (length entry) (length (marks_of l))) 0 (beyond_of l h)

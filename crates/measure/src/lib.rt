@@ -11,18 +11,11 @@ ghost use Rattle.measure.specs.Distances.{squares_of, beyond_found};
 use sheet::Model;
 
 // Writes the square of each mark's distance to the front of `squares`, and answers how many marks are
-// beyond, if they are to be counted. Where `squares` has not a place for each mark it writes nothing and
-// answers 0, as for none: the picker lends a place for each, so this is no refusal. `counting` picks no
-// step: the walk is the same and takes as long, and who doesn't ask is promised 0.
+// beyond. Where `squares` has not a place for each mark it writes nothing and answers 0, as for none:
+// the picker lends a place for each, so this is no refusal.
 #[tactic(auto, using(crate::proofs::Squares::squares_none, crate::proofs::Squares::squares_no_room, crate::proofs::Squares::squares_more, crate::proofs::Squares::squares_all, crate::proofs::Squares::beyond_next, crate::proofs::Squares::beyond_end, crate::proofs::Squares::beyond_no_room, crate::proofs::Squares::beyond_all, crate::proofs::Squares::or_infinite, crate::proofs::Squares::one_more))]
-pub fn squared_residuals(
-    h: Model,
-    ratio: f64,
-    marks: &[f64],
-    squares: &mut [f64],
-    counting: bool,
-) -> usize
-    ensures value { result ≡ beyond_found counting marks.now h squares.old }
+pub fn squared_residuals(h: Model, ratio: f64, marks: &[f64], squares: &mut [f64]) -> usize
+    ensures value { result ≡ beyond_found marks.now h squares.old }
     ensures squares_after { squares.new ≡ filled (squares_of ratio marks.now h) squares.old }
 {
     let n = sheet::mark_count(marks);
@@ -33,7 +26,7 @@ pub fn squared_residuals(
     for i in 0..n {
         let square = sheet::squared_distance(h, sheet::mark_at(marks, i), ratio);
         squares[i] = square.unwrap_or(f64::INFINITY);
-        beyond += usize::from(counting & square.is_none());
+        beyond += usize::from(square.is_none());
     }
     beyond
 }

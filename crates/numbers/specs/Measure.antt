@@ -1,5 +1,5 @@
 -- What the measuring of a mark under a model gives, for any family (document 02, order 2): that it is beyond, or its distance.
-use Rattle.std.specs.Prelude.{Bool, true, false, cond, ℕ, Float}
+use Rattle.std.specs.Prelude.{Bool, true, false, Float}
 use Rattle.numbers.specs.Constants.{infinity}
 
 -- Beyond is behind the horizon. (In the terms of the field, the mark fails the cheirality test.)
@@ -15,7 +15,3 @@ is_beyond (distance d) = false
 unfoldable pub as_distance : Measure → Float
 as_distance beyond = infinity
 as_distance (distance d) = d
-
--- the number of marks that are beyond, for a caller that may do without: 0 where they aren't counted
-unfoldable pub if_counted : (counting : Bool) → ℕ → ℕ
-if_counted counting k = cond counting k 0

@@ -55,15 +55,14 @@ impl BeforeEnd {
 }
 
 // One trial over marks that were tested before, refused as `step` refuses it: the state is the one
-// that `step` gives. The squares of the marks are measured into the list that is lent, and no marks
-// beyond are counted.
+// that `step` gives. The squares of the marks are measured into the list that is lent.
 #[tactic(auto, using(judge::proofs::Left::support_scored), unfolding(crate::specs::Trial::step_booking, crate::specs::Trial::next_of, crate::specs::Trial::squares_then, book::specs::Calls::tried, book::specs::Calls::is_refusal, book::specs::Calls::number_in, book::specs::Book::entered, book::specs::Book::scored_answer))]
 pub fn advance(s: State, call: Call, squares: &mut [f64; 2000]) -> Result<State, Refusal>
     ensures result_value { told view_state result ≡ next_of (step_booking (view_state s) (call_of call.entry)) }
     ensures squares_after { squares.new ≡ squares_then (view_state s) (call_of call.entry) squares.old }
 {
     let before_end = BeforeEnd::of(s)?;
-    let found = judge::count_support(s.options, s.n, call, squares, false)?;
+    let found = judge::count_support(s.options, s.n, call, squares)?;
     match found.verdict {
         Verdict::Empty => Ok(before_end.empty()),
         Verdict::Few(_) => Ok(before_end.few()),

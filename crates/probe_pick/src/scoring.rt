@@ -6,10 +6,11 @@ ghost use Rattle.book.specs.Score.{count_in, squares_in, rms_of};
 ghost use Rattle.measure.specs.Distances.{squares_of, beyond_found};
 ghost use Rattle.score.specs.Places.{index_count, indexed};
 ghost use Rattle.score.specs.Less.{less_of};
-ghost use Rattle.probe_pick.specs.Scoring.{model_of, below_of};
+ghost use Rattle.probe_pick.specs.Scoring.{model_of, if_counted, below_of};
 
 use sheet::Model;
 
+#[tactic(auto, unfolding(crate::specs::Scoring::if_counted))]
 #[unsafe(no_mangle)]
 pub extern "C" fn probe_squared_residuals(
     h0: f64,
@@ -26,11 +27,12 @@ pub extern "C" fn probe_squared_residuals(
     squares: &mut [f64],
     counting: bool,
 ) -> usize
-    ensures value { result ≡ beyond_found counting marks.now (model_of h0 h1 h2 h3 h4 h5 h6 h7 h8) squares.old }
+    ensures value { result ≡ if_counted counting (beyond_found marks.now (model_of h0 h1 h2 h3 h4 h5 h6 h7 h8) squares.old) }
     ensures squares_after { squares.new ≡ filled (squares_of ratio marks.now (model_of h0 h1 h2 h3 h4 h5 h6 h7 h8)) squares.old }
 {
     let h = Model::from([h0, h1, h2, h3, h4, h5, h6, h7, h8]);
-    measure::squared_residuals(h, ratio, marks, squares, counting)
+    let beyond = measure::squared_residuals(h, ratio, marks, squares);
+    if counting { beyond } else { 0 }
 }
 
 #[unsafe(no_mangle)]

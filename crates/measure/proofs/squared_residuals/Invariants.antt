@@ -8,6 +8,6 @@ abbrev pub invariant-loop-i : goal.invariant-loop-i
 invariant-loop-i l =
     record {
       stored : l.squares ≡ squares_after l.ratio l.marks l.h l.initial.squares l.i;
-      counted : l.beyond + beyond_from l.counting l.ratio l.marks l.h l.i ≡ beyond_from l.counting l.ratio l.marks l.h 0;
+      counted : l.beyond + beyond_from l.ratio l.marks l.h l.i ≡ beyond_from l.ratio l.marks l.h 0;
       few : l.beyond ≤ l.i;
     }
