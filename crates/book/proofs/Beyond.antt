@@ -48,13 +48,13 @@ module _ {M : Type 0} (o : Options) (distances : M → List Float) (stops : List
       where
         go : (b : Bool) → cond b (few (count_in o.thresh (distances fit))) (scored (standing o distances stops stands)) ≡ few k → k ≡ count_in o.thresh (distances fit)
         go true e = cc
-        go false e = absurd (let z : ◌≡◌ {A = ℕ} 0 1 = cc in omega (arith, z))
+        go false e = cc
 
     with_few : (fit stands : M) (k : ℕ) → judged_by o distances stops fit stands ≡ few k → far fit + k ≤ n
     with_few fit stands k e = rw (few_is fit stands k e) (each fit)
 
     pub few_and_beyond : (t : Trial M) (k : ℕ) → judge_trial o distances stops t ≡ few k → beyond_fit far t + k ≤ n
     unfolding judge_trial beyond_fit
-    few_and_beyond unfitted k e = absurd (let z : ◌≡◌ {A = ℕ} 0 1 = cc in omega (arith, z))
+    few_and_beyond unfitted k e = cc
     few_and_beyond (fitted fit) k e = with_few fit fit k e
     few_and_beyond (refitted fit refit) k e = with_few fit (stands_of o distances stops fit refit) k e

@@ -39,13 +39,13 @@ module _ {M : Type 0} (o : Options) (distances : M → List Float) (stops : List
   own-judged fit stands s = go (ltb (count_under o distances stops fit) o.least)
     where
       go : (b : Bool) → cond b (few (count_under o distances stops fit)) (scored (standing o distances stops stands)) ≡ scored s → Own s
-      go true e = absurd (let z : ◌≡◌ {A = ℕ} 0 1 = cc in omega arith)
+      go true e = cc
       go false e = let q : standing o distances stops stands ≡ s = cc in subst Own q (refl, refl)
 
   pub judge_own : (t : Trial M) (s : Standing M) → judge_trial o distances stops t ≡ scored s
       → (s.count ≡ count_in o.thresh (distances s.model)) × (s.rms ≡ rms_in o.thresh (distances s.model))
   unfolding judge_trial
-  judge_own unfitted s e = absurd (let z : ◌≡◌ {A = ℕ} 0 1 = cc in omega arith)
+  judge_own unfitted s e = cc
   judge_own (fitted fit) s e = own-judged fit fit s e
   judge_own (refitted fit refit) s e = own-judged fit (stands_of o distances stops fit refit) s e
 

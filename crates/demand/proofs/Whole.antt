@@ -187,12 +187,9 @@ module _ (f : Files) (r : ℕ) (winner indices winner' indices' : List ℕ) wher
       unfolding result_of
       is_broken k e = gave_refused k (subst (λ (x : Stopped Model). Gives (result_of x)) e of_result)
 
-      no_both : (b : Book Model) (k : ℕ) → stopped b ≡ broken k → ⊥
-      no_both b k q = let z : ◌≡◌ {A = ℕ} 0 1 = cc in omega (arith, z)
-
       -- where it stopped, the book is that of the trials read
       stopped_is : (read : ℕ) → ReadTo (rule_of p) js result read → (b : Book Model) → result ≡ stopped b → result ≡ stopped (book_after (rule_of p) (fresh (rule_of p)) (take read js))
-      stopped_is read to b e = ⊎_elim (λ x. x.1) (λ x. absurd (no_both b x.2.0 (sym e ∙ x.2.1.1))) to.ends
+      stopped_is read to b e = ⊎_elim (λ x. x.1) (λ x. let broke = x.2.1.1 in cc) to.ends
 
       is_stopped : (read : ℕ) → ReadTo (rule_of p) js result read → (b : Book Model) → result ≡ stopped b → CalledAlike f read r winner indices winner' indices'
       is_stopped read to b e =

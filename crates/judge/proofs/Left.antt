@@ -71,7 +71,7 @@ module _ (o : RansacOptions) (l : List Float) (stops : List ℕ) (d : Model) (en
 pub by_number : (k : ℕ) (w : Judged Model) (t : Standing Model) → if_passed k w (turned_down k) ≡ scored t → (k ≡ 0) × (w ≡ scored t)
 unfolding if_passed
 by_number zero w t e = (refl, e)
-by_number (suc k) w t e = absurd (let z : ◌≡◌ {A = ℕ} 0 1 = cc in omega (arith, z))
+by_number (suc k) w t e = cc
 
 -- The count is the model's own, and the front of the list has its squares.
 record Leaves (o : RansacOptions) (n : ℕ) (l : List Float) (m : Model) (count : ℕ) (s : List Float) : Type 0 where

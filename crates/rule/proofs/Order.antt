@@ -96,9 +96,9 @@ kept (suc k) a b h = refl
 pub decided-gives : {A : Type 0} (k : ℕ) {a b : A} → gives b ≡ decided k a → (k ≡ 0) × (b ≡ a)
 unfolding decided
 decided-gives zero h = (refl, cc)
-decided-gives (suc k) h = absurd (let z : ◌≡◌ {A = ℕ} 0 1 = cc in omega (arith, z))
+decided-gives (suc k) h = cc
 
 pub decided-refused : {A : Type 0} (k : ℕ) (a : A) {j : ℕ} → refused j ≡ decided k a → (j ≡ k) × (k ≡ 0 → ⊥)
 unfolding decided
-decided-refused zero a h = absurd (let z : ◌≡◌ {A = ℕ} 0 1 = cc in omega (arith, z))
+decided-refused zero a h = cc
 decided-refused (suc k) a h = (cc, λ e. absurd (omega (arith, e)))

@@ -130,7 +130,7 @@ module _ (o : RansacOptions) (l : List Float) (table trials : List ℕ) (winner 
     where
       passed : (k : ℕ) (a : Answer (Winner Model)) → gives w ≡ after_tests k a → 0 ≡ k
       passed zero a e = refl
-      passed (suc k) a e = absurd (let z : ◌≡◌ {A = ℕ} 0 1 = cc in omega (arith, z))
+      passed (suc k) a e = cc
 
   pub winner_fits : 88 ≤ winner
   winner_fits = given_passed.winner-room

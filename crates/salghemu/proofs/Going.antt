@@ -4,7 +4,6 @@ use mathlib.Core.Bool.{Bool, true, false, cond}
 use mathlib.Core.List.{List, [], ◌∷◌}
 use Prim.Native.Nat.{ℕ, ◌+◌, ◌/◌, ◌≤◌, ◌<◌}
 use native.Mathlib.Numerals.{add-one}
-use native.Mathlib.Omega.{arith}
 use borrow.Author.Tests.{le-leb, lt-leb}
 use lib.ListN.{length, drop, get_or, length-map, get_or-map, drop_of_length-le}
 use lib.Seq.{drop-cons}
@@ -41,14 +40,14 @@ next_refused a k h = go (is_refusal a.outcome) h
   where
     go : (b : Bool) → refused k ≡ cond b (refused (number_in a.outcome)) (gives a.run) → (b ≡ true) × (k ≡ number_in a.outcome)
     go true e = (refl, cc)
-    go false e = absurd (let z : ◌≡◌ {A = ℕ} 0 1 = cc in omega (arith, z))
+    go false e = cc
 
 next_read : (a : Booking) (r : Run) → gives r ≡ next_of a → (is_refusal a.outcome ≡ false) × (r ≡ a.run)
 unfolding next_of
 next_read a r h = go (is_refusal a.outcome) h
   where
     go : (b : Bool) → gives r ≡ cond b (refused (number_in a.outcome)) (gives a.run) → (b ≡ false) × (r ≡ a.run)
-    go true e = absurd (let z : ◌≡◌ {A = ℕ} 0 1 = cc in omega (arith, z))
+    go true e = cc
     go false e = (refl, cc)
 
 -- ---- the records as the library cuts them

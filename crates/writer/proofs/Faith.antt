@@ -35,11 +35,11 @@ pub record Laws {N A : Type 0} (f : Format N A) : Type 0 where
 numbers-given : {N A : Type 0} (numbers : A → N) (k : ℕ) (a : A) {n : N} → as_numbers numbers (decided k a) ≡ gives n → (k ≡ 0) × (numbers a ≡ n)
 unfolding as_numbers decided
 numbers-given numbers zero a h = (refl, cc)
-numbers-given numbers (suc k) a h = absurd (let z : ◌≡◌ {A = ℕ} 0 1 = cc in omega (arith, z))
+numbers-given numbers (suc k) a h = cc
 
 numbers-refused : {N A : Type 0} (numbers : A → N) (k : ℕ) (a : A) {j : ℕ} → as_numbers numbers (decided k a) ≡ refused j → (k ≡ j) × (k ≡ 0 → ⊥)
 unfolding as_numbers decided
-numbers-refused numbers zero a h = absurd (let z : ◌≡◌ {A = ℕ} 0 1 = cc in omega (arith, z))
+numbers-refused numbers zero a h = cc
 numbers-refused numbers (suc k) a h = (cc, λ e. absurd (omega (arith, e)))
 
 module _ {N A : Type 0} (f : Format N A) (laws : Laws f) where
