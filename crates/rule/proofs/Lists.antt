@@ -1,7 +1,7 @@
 -- What a loop knows at place i of a list that it goes through from the front: what is still owed, from i on; or what is written, up to i.
 -- Assumes nothing.
 use mathlib.Core.Path.{◌≡◌, refl, sym, ap, ap₂, ◌∙◌}
-use mathlib.Core.Bool.{Bool, true, false, cond, ◌&&◌}
+use mathlib.Core.Bool.{Bool, true, false, cond}
 use mathlib.Core.Logic.{⊎_elim}
 use mathlib.Core.List.{List, [], ◌∷◌, ◌++◌, map, append_assoc, append-nil}
 use Prim.Native.Nat.{ℕ, zero, suc, ◌+◌, ◌-◌, ◌*◌, ◌≤◌, ◌<◌, zero-le}
@@ -57,16 +57,6 @@ count_most test (a ∷ l) = go (test a) (count_most test l)
     go : (b : Bool) → count_of test l ≤ length l → cond b 1 0 + count_of test l ≤ suc (length l)
     go true h = omega arith
     go false h = omega arith
-
--- none, and a count that is asked for or not
-count_none : {A : Type 0} (l : List A) → count_of (λ a. false) l ≡ 0
-unfolding count_of
-count_none [] = refl
-count_none (a ∷ l) = zero-add (count_of (λ a. false) l) ∙ count_none l
-
-pub count_asked : {A : Type 0} (asked : Bool) (test : A → Bool) (l : List A) → count_of (λ a. asked && test a) l ≡ cond asked (count_of test l) 0
-count_asked true test l = refl
-count_asked false test l = count_none l
 
 pub places_count : {A : Type 0} (test : A → Bool) (k : ℕ) (l : List A) → length (places_from k test l) ≡ count_of test l
 unfolding places_from count_of
