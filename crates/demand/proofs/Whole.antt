@@ -8,7 +8,7 @@ use native.Mathlib.Omega.{arith}
 use Rattle.std.proofs.lemmas.List.{take-map}
 use Rattle.std.proofs.lemmas.List.Folds.{list_all-map}
 use Rattle.std.proofs.lemmas.Simd.{map-map}
-use borrow.Author.Tests.{eq-eqb, le-ltb, eqb-true, ltb-false, not-false}
+use borrow.Author.Tests.{eq-eqb, eqb-true, ltb-false, not-false}
 use lib.Dec.{ltb, eqb}
 use lib.ListN.{length, take}
 use lib.Ieee.{Float}
@@ -20,6 +20,7 @@ use Rattle.rule.proofs.Tests.{neither}
 use Rattle.rule.proofs.Order.{passes, first_passed, all_passed, none_failed}
 use Rattle.sheet.specs.Marks.{marks_of, shape, point, few, marks_tests}
 use Rattle.sheet.specs.declared.model.Model.{Model}
+use Rattle.sheet.proofs.Refused.{shaped}
 use Rattle.book.specs.Score.{Judged}
 use Rattle.book.specs.Book.{Winner, Held, none, held, Book, fresh, book_after, outcomes_of}
 use Rattle.book.specs.Calls.{Called, is_refusal}
@@ -87,11 +88,10 @@ module _ (f : Files) (winner indices : ℕ) (all : first_failed (run_tests f win
       }
 
   shape_fine : (shape l).fails ≡ false
-  unfolding shape
   shape_fine =
       let long = numbers-length f.marks in
       let s = fine.short in
-      rw (eq-eqb (length l % 4) 0 (omega (arith, long)), le-ltb 8000 (length l) (omega (arith, long, s)))
+      shaped l (omega (arith, long)) (omega (arith, long, s))
 
   entries_fine : (entries l (words_of f.stops)).fails ≡ false
   unfolding entries

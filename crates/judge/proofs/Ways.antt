@@ -1,19 +1,19 @@
 -- The judge's ways out: the tests of the call, then the record's, and what the record is worth. Assumes nothing.
 use mathlib.Core.Path.{◌≡◌, refl, sym, ap, ◌∙◌}
-use mathlib.Core.Bool.{not, cond}
+use mathlib.Core.Bool.{cond}
 use mathlib.Core.List.{List, [], ◌∷◌}
-use Prim.Native.Nat.{ℕ, zero, suc, ◌%◌, ◌≤◌}
+use Prim.Native.Nat.{ℕ, zero, suc, ◌≤◌}
 use native.Mathlib.Omega.{arith}
-use borrow.Author.Tests.{ne_eqb, ltb-false, eqb-true, not-false}
-use lib.Dec.{ltb, eqb}
+use borrow.Author.Tests.{ne_eqb, eqb-true, not-false}
+use lib.Dec.{eqb}
 use lib.ListN.{length}
 use lib.Ieee.{Float}
 use Rattle.rule.specs.Answer.{Answer, refused, gives}
 use Rattle.rule.specs.Order.{Test, first_failed, decided, if_passed}
-use Rattle.rule.proofs.Tests.{neither}
 use Rattle.rule.proofs.Order.{numbered, first_passed, one_failed, all_passed}
 use Rattle.sheet.specs.Marks.{marks_of, shape, few}
 use Rattle.sheet.specs.declared.model.Model.{Model}
+use Rattle.sheet.proofs.Refused.{short_enough}
 use Rattle.book.specs.Score.{turned_down, Trial, judge_trial, beyond_fit}
 use Rattle.records.specs.Trial.{trial_record, trial_answer, trial_of}
 use Rattle.records.specs.declared.options.RansacOptions.{RansacOptions}
@@ -29,7 +29,7 @@ run_passed n l rest h =
     let a = first_passed (of_run n l) (shape l ∷ rest) tt h in
     let b = first_passed (shape l) rest tt a.1 in (
       sym (eqb-true (length (marks_of l)) n (not-false (eqb (length (marks_of l)) n) a.0)),
-      ltb-false 8000 (length l) (neither (not (eqb (length l % 4) 0)) (ltb 8000 (length l)) b.0).1,
+      short_enough l b.0,
     )
 
 -- ---- the judge: by the tests of the call, then by what the record's reader answers

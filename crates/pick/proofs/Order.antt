@@ -1,23 +1,22 @@
 -- What the refusal orders of the opening and of a trial say where their tests pass. Assumes nothing.
 use mathlib.Core.Path.{◌≡◌, refl, sym, ap, ap₂, ◌∙◌}
-use mathlib.Core.Bool.{Bool, true, false, not, cond}
+use mathlib.Core.Bool.{Bool, true, false, cond}
 use mathlib.Core.List.{List, [], ◌∷◌, ◌++◌}
-use Prim.Native.Nat.{ℕ, zero, suc, ◌%◌, ◌≤◌}
+use Prim.Native.Nat.{ℕ, zero, suc, ◌≤◌}
 use native.Mathlib.Omega.{arith}
-use borrow.Author.Tests.{eq-eqb, ne_eqb, eqb-true, ltb-false}
-use lib.Dec.{T, ltb, eqb}
+use borrow.Author.Tests.{eq-eqb, ne_eqb, eqb-true}
+use lib.Dec.{T, eqb}
 use lib.ListN.{length}
 use lib.Ieee.{Float}
 use Rattle.rule.specs.Refusal.{SHAPE, ENDED, number_of}
 use Rattle.rule.specs.Order.{Test, first_failed, if_passed}
 use Rattle.rule.specs.declared.Refusal.{Refusal}
-use Rattle.rule.proofs.Tests.{neither}
 use Rattle.rule.proofs.Views.{number_above_0}
 use Rattle.rule.proofs.Order.{numbered, stops, passes, first_passed, one_failed, all_passed, none_failed}
 use Rattle.sheet.specs.Marks.{marks_of, shape, point, few, marks_tests}
 use Rattle.sheet.specs.declared.model.Model.{Model}
 use Rattle.sheet.proofs.Places.{count}
-use Rattle.sheet.proofs.Refused.{marks_passed}
+use Rattle.sheet.proofs.Refused.{short_enough, marks_passed}
 use Rattle.book.specs.Score.{Judged, turned_down, Judgement}
 use Rattle.book.specs.Book.{is_refused, entered}
 use Rattle.book.specs.Calls.{is_closed, tried}
@@ -56,7 +55,7 @@ pub at_most_2000 : (l : List Float) → 0 ≡ first_failed (marks_tests l) → l
 unfolding marks_tests shape
 at_most_2000 l h =
     let a = first_passed (shape l) _ tt (sym h) in
-    let short = ltb-false 8000 (length l) (neither (not (eqb (length l % 4) 0)) (ltb 8000 (length l)) a.0).1 in
+    let short = short_enough l a.0 in
     let quarter = count l in
     omega (arith, short, quarter)
 

@@ -1,23 +1,22 @@
 -- What the indices' order says of the lists where it passes: there is a place for each mark, and there are at most 2,000. So all indices are written.
 -- Assumes nothing.
 use mathlib.Core.Path.{◌≡◌, sym}
-use mathlib.Core.Bool.{false, not}
+use mathlib.Core.Bool.{false}
 use mathlib.Core.List.{List, [], ◌++◌}
-use Prim.Native.Nat.{ℕ, ◌%◌, ◌≤◌}
+use Prim.Native.Nat.{ℕ, ◌≤◌}
 use native.Mathlib.Omega.{arith}
 use borrow.Author.Tests.{ltb-false, le-ltb}
-use lib.Dec.{ltb, eqb}
 use lib.ListN.{length, drop}
 use lib.Ieee.{Float}
 use Rattle.std.proofs.lemmas.Grind.{common_steps}
 use Rattle.rule.specs.Answer.{gives}
 use Rattle.rule.specs.Order.{first_failed, decided, if_passed, room}
-use Rattle.rule.proofs.Tests.{neither}
 use Rattle.rule.proofs.Order.{first_passed}
 use Rattle.rule.proofs.Lists.{places_count}
 use Rattle.sheet.specs.Marks.{marks_of, shape, point, few, marks_tests}
 use Rattle.sheet.specs.declared.model.Model.{Model}
 use Rattle.sheet.proofs.Places.{count}
+use Rattle.sheet.proofs.Refused.{short_enough}
 use Rattle.book.specs.Score.{close, count_in}
 use Rattle.measure.specs.Distances.{distances_of}
 use Rattle.measure.proofs.Squares.{distances-count}
@@ -41,7 +40,7 @@ module _ (n : ℕ) (ratio thresh : Float) (h : Model) (l : List Float) (entry : 
       let c = first_passed (point l) _ tt b.1 in
       let d = first_passed (few l) _ tt c.1 in
       let f = first_passed (room (length (marks_of l)) (length entry)) [] tt d.1 in
-      let short : length l ≤ 8000 = ltb-false 8000 (length l) (neither (not (eqb (length l % 4) 0)) (ltb 8000 (length l)) b.0).1 in
+      let short = short_enough l b.0 in
       let place : length (marks_of l) ≤ length entry = ltb-false (length entry) (length (marks_of l)) f.0 in
       let many = distances-count ratio l h in
       let quarter = count l in

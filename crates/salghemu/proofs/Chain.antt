@@ -4,7 +4,7 @@ use mathlib.Core.Bool.{Bool, true, false, cond}
 use mathlib.Core.List.{List, [], ◌∷◌, ◌++◌}
 use Prim.Native.Nat.{ℕ, zero, suc, ◌*◌, ◌/◌, ◌%◌, ◌≤◌, ◌<◌}
 use native.Mathlib.Omega.{arith}
-use borrow.Author.Tests.{eq-eqb, le-ltb, eqb-true, ltb-false, not-false}
+use borrow.Author.Tests.{eqb-true, ltb-false, not-false}
 use lib.Dec.{T, eqb}
 use lib.ListN.{length, take}
 use lib.Ieee.{Float}
@@ -19,6 +19,7 @@ use Rattle.rule.proofs.Views.{number_above_0}
 use Rattle.sheet.specs.Marks.{marks_of, shape, point, few, marks_tests}
 use Rattle.sheet.specs.declared.model.Model.{Model}
 use Rattle.sheet.proofs.Places.{count}
+use Rattle.sheet.proofs.Refused.{shaped}
 use Rattle.book.specs.Book.{Winner}
 use Rattle.fields.specs.Fields.{words_of}
 use Rattle.fields.proofs.Reading.{words_count}
@@ -83,10 +84,6 @@ module _ (f : Files) (winner indices : ℕ) where
       ∙ ap (after_tests (first_failed (options_tests o))) (after_both (mark_bytes f.marks ∷ []) rest tt a ∙ after_one (mark_bytes f.marks).fails SHAPE _ (omega arith)))
 
 -- ---- what the later tests say where they all pass
-
-shaped : (l : List Float) → length l % 4 ≡ 0 → length l ≤ 8000 → (shape l).fails ≡ false
-unfolding shape
-shaped l whole short = rw (eq-eqb (length l % 4) 0 whole, le-ltb 8000 (length l) short)
 
 point_alone : (l : List Float) → (point l).fails ≡ false → 0 ≡ first_failed (point l ∷ [])
 unfolding first_failed
