@@ -14,7 +14,6 @@ use Rattle.rule.specs.Answer.{gives, answered}
 use Rattle.rule.specs.Order.{first_failed, decided, if_passed}
 use Rattle.rule.specs.Arith.{clear}
 use Rattle.rule.proofs.Order.{decided-gives, done, first_passed, decided-none}
-use Rattle.rule.proofs.Lists.{places_count}
 use Rattle.sheet.specs.Marks.{marks_of, mark_at, no_mark}
 use Rattle.sheet.specs.Distance.{distance_of, inlier}
 use Rattle.sheet.specs.declared.model.Model.{Model}
@@ -29,6 +28,7 @@ use Rattle.records.specs.Trial.{trial_of}
 use Rattle.records.specs.declared.options.RansacOptions.{RansacOptions}
 use Rattle.measure.specs.Distances.{distances_of}
 use Rattle.score.specs.Places.{indices_in}
+use Rattle.score.proofs.Walk.{indices_count}
 use Rattle.measure.proofs.Squares.{distances-count, distance-at}
 use Rattle.salghemu.specs.Whole.{laid_over}
 use Rattle.judge.specs.Judging.{rule_of, Call, call_tests, worth, judged_by, judge_of, beyond_by, judgement_of}
@@ -182,10 +182,9 @@ module _ (o : RansacOptions) (marks : List Float) (stops : List ℕ) (s₀ : Sta
     given_as entry after r call room_for = given-all marks entry (order_passes o marks stops s₀ opening s.n (length entry) of.1 room_for) after r call
 
     indices_of : w.count ≡ count_in o.thresh (distances_of o.ratio marks w.model) → IndicesGiven o marks s w
-    unfolding indices_in count_in
     indices_of own =
         record {
-          written = λ entry after r call room_for. (given_as entry after r call room_for).0 ∙ ap Ok (places_count (close o.thresh) 0 (distances_of o.ratio marks w.model) ∙ sym own);
+          written = λ entry after r call room_for. (given_as entry after r call room_for).0 ∙ ap Ok (indices_count o.thresh (distances_of o.ratio marks w.model) ∙ sym own);
           given = λ l entry after r call k e. indices_exact l entry after r call k e;
         }
 

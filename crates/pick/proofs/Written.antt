@@ -1,26 +1,24 @@
 -- What the indices' order says of the lists where it passes: there is a place for each mark, and there are at most 2,000. So all indices are written.
 -- Assumes nothing.
 use mathlib.Core.Path.{◌≡◌, sym}
-use mathlib.Core.Bool.{false}
 use mathlib.Core.List.{List, [], ◌++◌}
 use Prim.Native.Nat.{ℕ, ◌≤◌}
 use native.Mathlib.Omega.{arith}
-use borrow.Author.Tests.{ltb-false, le-ltb}
+use borrow.Author.Tests.{ltb-false}
 use lib.ListN.{length, drop}
 use lib.Ieee.{Float}
 use Rattle.std.proofs.lemmas.Grind.{common_steps}
 use Rattle.rule.specs.Answer.{gives}
 use Rattle.rule.specs.Order.{first_failed, decided, if_passed, room}
 use Rattle.rule.proofs.Order.{first_passed}
-use Rattle.rule.proofs.Lists.{places_count}
 use Rattle.sheet.specs.Marks.{marks_of, shape, point, few, marks_tests}
 use Rattle.sheet.specs.declared.model.Model.{Model}
 use Rattle.sheet.proofs.Places.{count}
 use Rattle.sheet.proofs.Refused.{short_enough}
-use Rattle.book.specs.Score.{close, count_in}
 use Rattle.measure.specs.Distances.{distances_of}
 use Rattle.measure.proofs.Squares.{distances-count}
-use Rattle.score.specs.Places.{indices_in, cramped, indexed, index_count}
+use Rattle.score.specs.Places.{indices_in, indexed, index_count}
+use Rattle.score.proofs.Walk.{all_counted, all_indexed}
 use Rattle.judge.specs.Judging.{of_run}
 use Rattle.pick.specs.Run.{Run}
 use Rattle.pick.specs.Indices.{marks_order, under_answer, under_after, winner_answer, winner_after, indices_answer, indices_after}
@@ -32,8 +30,8 @@ module _ (n : ℕ) (ratio thresh : Float) (h : Model) (l : List Float) (entry : 
   abbrev indices : List ℕ
   indices = indices_in thresh ds
 
-  roomy : cramped ds entry ≡ false
-  unfolding marks_order marks_tests of_run shape point few room cramped
+  roomy : (length ds ≤ length entry) × (length ds ≤ 2000)
+  unfolding marks_order marks_tests of_run shape point few room
   roomy =
       let a = first_passed (of_run n l) _ tt (sym passed) in
       let b = first_passed (shape l) _ tt a.1 in
@@ -44,15 +42,13 @@ module _ (n : ℕ) (ratio thresh : Float) (h : Model) (l : List Float) (entry : 
       let place : length (marks_of l) ≤ length entry = ltb-false (length entry) (length (marks_of l)) f.0 in
       let many = distances-count ratio l h in
       let quarter = count l in
-      rw (le-ltb (length entry) (length ds) (omega (arith, many, place)), le-ltb 2000 (length ds) (omega (arith, many, quarter, short)))
+      (omega (arith, many, place), omega (arith, many, quarter, short))
 
   pub count_written : index_count thresh ds entry ≡ length indices
-  unfolding index_count indices_in count_in
-  count_written = rw roomy (sym (places_count (close thresh) 0 ds))
+  count_written = all_counted thresh ds entry roomy.0 roomy.1
 
   pub all_written : indexed thresh ds entry ≡ indices ++ drop (length indices) entry
-  unfolding indexed
-  all_written = rw roomy
+  all_written = all_indexed thresh ds entry roomy.0 roomy.1
 
 -- a number that is answered is of the front of the list that is left
 pub count_inside : (r : Run) (l : List Float) (entry : List ℕ) {k : ℕ} → gives k ≡ indices_answer r l entry → k ≤ length (indices_after r l entry)

@@ -1,27 +1,25 @@
 -- What a run gives and writes, one law for each way out. Assumes nothing.
 use mathlib.Core.Path.{◌≡◌, refl, sym, ◌∙◌}
-use mathlib.Core.Bool.{false}
 use mathlib.Core.List.{List, [], ◌∷◌, ◌++◌}
 use Prim.Native.Nat.{ℕ, ◌*◌, ◌≤◌}
 use native.Mathlib.Omega.{arith}
-use borrow.Author.Tests.{le-ltb}
 use borrow.Rule.Slice.PartMut.{mid_of, put_mid}
 use lib.ListN.{length, drop}
 use lib.Ieee.{Float}
 use Rattle.rule.specs.Lists.{for_each, filled}
-use Rattle.rule.proofs.Lists.{for_each-length, filled_is, places_count}
+use Rattle.rule.proofs.Lists.{for_each-length, filled_is}
 use Rattle.sheet.specs.Marks.{marks_of}
 use Rattle.sheet.specs.Distance.{model_numbers}
 use Rattle.sheet.specs.declared.model.Model.{Model}
 use Rattle.sheet.proofs.Places.{count}
-use Rattle.book.specs.Score.{close, count_in}
 use Rattle.book.specs.Book.{Winner}
 use Rattle.book.proofs.Clear.{count-within}
 use Rattle.fields.specs.Fields.{bytes_of, double_bytes}
 use Rattle.fields.proofs.Writing.{bytes_wide, laid_none, laid_more, laid_all}
 use Rattle.records.specs.declared.options.RansacOptions.{RansacOptions}
 use Rattle.measure.specs.Distances.{distances_of}
-use Rattle.score.specs.Places.{indices_in, cramped, indexed, index_count}
+use Rattle.score.specs.Places.{indices_in, indexed, index_count}
+use Rattle.score.proofs.Walk.{indices_count as indices_counted, all_counted, all_indexed}
 use Rattle.measure.proofs.Squares.{distances-count}
 use Rattle.salghemu.specs.Whole.{winner_bytes, index_bytes, laid_over}
 
@@ -49,24 +47,17 @@ module _ (o : RansacOptions) (l : List Float) (h : Model) where
   xs = indices_in o.thresh ds
 
   few : length xs ≤ length (marks_of l)
-  unfolding indices_in count_in
-  few = rw (places_count (close o.thresh) 0 ds, ← distances-count o.ratio l h) (count-within o.thresh ds)
+  few = rw (indices_counted o.thresh ds, ← distances-count o.ratio l h) (count-within o.thresh ds)
 
   module _ (places : List ℕ) (short : length l ≤ 8000) (wide : length places ≡ 2000) where
-    roomy : cramped ds places ≡ false
-    unfolding cramped
-    roomy =
-        let a = distances-count o.ratio l h in
-        let b = count l in
-        rw (le-ltb (length places) (length ds) (omega (arith, a, b, short, wide)), le-ltb 2000 (length ds) (omega (arith, a, b, short)))
+    at_most_2000 : length ds ≤ 2000
+    at_most_2000 = let a = distances-count o.ratio l h in let b = count l in omega (arith, a, b, short)
 
     pub indices_count : index_count o.thresh ds places ≡ length xs
-    unfolding index_count indices_in count_in
-    indices_count = rw roomy (sym (places_count (close o.thresh) 0 ds))
+    indices_count = all_counted o.thresh ds places (rw wide at_most_2000) at_most_2000
 
     pub indices_first : indexed o.thresh ds places ≡ xs ++ drop (length xs) places
-    unfolding indexed
-    indices_first = rw roomy
+    indices_first = all_indexed o.thresh ds places (rw wide at_most_2000) at_most_2000
 
   pub indices_laid : (entry : List ℕ) → 4 * length (marks_of l) ≤ length entry → laid_over (index_bytes o l h) entry ≡ filled (for_each (bytes_of 4) xs) entry
   unfolding laid_over index_bytes

@@ -6,6 +6,7 @@ use Prim.Native.Nat.{ℕ, suc, ◌+◌, ◌≤◌, ◌<◌}
 use native.Mathlib.Nat.{zero-add, add-zero}
 use native.Mathlib.Numerals.{add-one}
 use native.Mathlib.Omega.{arith}
+use borrow.Author.Tests.{le-ltb}
 use lib.Dec.{T}
 use lib.ListN.{length, get_or, take, drop, set, length-map, length-append}
 use lib.Seq.{drop-cons, set-append_seam, length-take-le}
@@ -23,7 +24,7 @@ use Rattle.root.specs.Root.{root_of}
 use Rattle.numbers.specs.Constants.{zero'}
 use Rattle.book.specs.Score.{close, count_in, square, squares_in}
 use Rattle.book.proofs.Clear.{count-within}
-use Rattle.score.specs.Places.{indices_in}
+use Rattle.score.specs.Places.{indices_in, cramped, indexed, index_count}
 use Rattle.score.specs.Limits.{Low, High, surely, possibly}
 use Rattle.score.specs.Sum.{within_added}
 
@@ -108,9 +109,23 @@ stored front entry {k} i long inside =
     ∙ set-append_seam front (get_or entry k 0) (drop (suc k) entry) i
     ∙ rw (← add-one k) (sym (append_assoc front (i ∷ []) (drop (k + 1) entry)))
 
-indices_count : (thresh : Float) (ds : List Float) → length (indices_in thresh ds) ≡ count_in thresh ds
+pub indices_count : (thresh : Float) (ds : List Float) → length (indices_in thresh ds) ≡ count_in thresh ds
 unfolding indices_in count_in
 indices_count thresh ds = places_count (close thresh) 0 ds
+
+-- where there is room, all of them are written
+module _ (thresh : Float) (ds : List Float) (entry : List ℕ) (fit : length ds ≤ length entry) (few : length ds ≤ 2000) where
+  roomy : cramped ds entry ≡ false
+  unfolding cramped
+  roomy = rw (le-ltb (length entry) (length ds) fit, le-ltb 2000 (length ds) few)
+
+  pub all_counted : index_count thresh ds entry ≡ length (indices_in thresh ds)
+  unfolding index_count
+  all_counted = rw roomy (sym (indices_count thresh ds))
+
+  pub all_indexed : indexed thresh ds entry ≡ indices_in thresh ds ++ drop (length (indices_in thresh ds)) entry
+  unfolding indexed
+  all_indexed = rw roomy
 
 module _ (thresh : Float) (qs : List Float) (entry : List ℕ) where
   -- the places of the first i; how many they are, and the lent list when they are written
