@@ -25,10 +25,7 @@ fn none() -> f64
 fn place_of(numbers: &[f64], place: u32) -> f64
     ensures { result ≡ get_or numbers.now place nan }
 {
-    match numbers.get(place as usize) {
-        Some(x) => *x,
-        None => none(),
-    }
+    numbers.get(place as usize).copied().unwrap_or(none())
 }
 
 #[unsafe(no_mangle)]
