@@ -1,6 +1,6 @@
 -- Lower bounds of doubles of clear sign. Sums, quotients and roots keep the order; and a number times 1 - 2 ^ -52 is not above the square of its root,
 -- so that a root mean square has a lower bound that needs no root of a distance. Assumes nothing.
-use mathlib.Core.Path.{◌≡◌, refl, subst}
+use mathlib.Core.Path.{◌≡◌, refl}
 use mathlib.Core.Bool.{true, false}
 use Prim.Native.Nat.{ℕ, zero, suc, ◌+◌, ◌-◌, ◌*◌, ◌^◌, ◌≤◌, ◌<◌, zero-le}
 use native.Mathlib.Nat.{le_refl, zero-lt-suc, zero-mul, mul-pos, mul-one, mul-le-mul_right, add-zero}
@@ -17,8 +17,8 @@ use lib.Ieee.Positive.{positive, positive_of_value, mul_at}
 use Rattle.rule.specs.Arith.{◌⊕◌, ◌⊗◌, ◌⊘◌, clear}
 use Rattle.root.specs.Root.{root_bits, root_of}
 use Rattle.root.proofs.Patterns.{value}
-use Rattle.root.proofs.Doubles.{root_positive, read-value}
-use Rattle.root.proofs.Correct.{Pattern, pattern, on_patterns, root_correct}
+use Rattle.root.proofs.Doubles.{root_positive}
+use Rattle.root.proofs.Correct.{has_value, pattern, on_patterns, root_correct}
 use Rattle.root.proofs.Monotone.{root_monotone}
 use Rattle.root.proofs.Square.{root-square}
 use Rattle.numbers.specs.Constants.{zero'}
@@ -40,9 +40,6 @@ shrink_value = (refl, refl)
 -- q and d are the number and its root over k, r / s the factor
 over_square : (q d k r s : ℕ) → q * k * r ≤ s * (d * d) → q * r * (k * k) ≤ d * d * (k * s)
 over_square q d k r s h = let l = mul-le-mul_right k h in omega arith
-
-has_value : {y : Float} {p : ℕ} → Pattern y p → HasValue y false (value p) (2 ^ 1074)
-has_value {y} {p} b = subst (λ (x : Float). HasValue x false (value p) (2 ^ 1074)) b.read (read-value p b.finite)
 
 shrunk_positive : (q : Float) → T (fits binary64 q) → T (positive q) → T (le (q ⊗ shrink) (root_of q ⊗ root_of q))
 shrunk_positive q f p =

@@ -6,7 +6,8 @@
 -- two roundings to nearest gives this double. At a power of two the lower neighbour is at half the spacing, and so is the midpoint: the
 -- neighbours are doubles, not y less and plus one spacing. Roots lie from 2 ^ -537 to 2 ^ 512, so none is subnormal or overflows.
 -- Of zero the root is the same zero, of infinity infinity: that is `root_of`'s own text. Assumes nothing.
-use mathlib.Core.Path.{◌≡◌, refl, sym, ap, ap₂, ◌∙◌}
+use mathlib.Core.Path.{◌≡◌, refl, sym, ap, ap₂, subst, ◌∙◌}
+use mathlib.Core.Bool.{false}
 use Prim.Native.Nat.{ℕ, ◌+◌, ◌-◌, ◌*◌, ◌^◌, ◌<◌}
 use native.Mathlib.Nat.{le_antisymm, le_refl, lt_trans, mul-pos}
 use native.Mathlib.Omega.{arith}
@@ -14,6 +15,7 @@ use lib.Dec.{T, lit<}
 use lib.Pow.{pow_pos}
 use lib.Ieee.{Float, binary64, of_bits, to_bits, fits}
 use lib.Ieee.Bits.{of_bits-to_bits, to_bits-of_bits, of_bits-fits}
+use lib.Ieee.Exact.{HasValue}
 use lib.Ieee.Positive.{positive, positive_of_value}
 use Rattle.root.specs.Double.{units, next_up, next_down}
 use Rattle.root.specs.Root.{lower_midpoint, upper_midpoint, IsRoot, root_bits, root_of}
@@ -28,6 +30,9 @@ pub record Pattern (y : Float) (p : ℕ) : Type 0 where
   pub finite : p < 2047 * 2 ^ 52
   pub written : to_bits binary64 y ≡ p
   pub read : of_bits binary64 p ≡ y
+
+pub has_value : {y : Float} {p : ℕ} → Pattern y p → HasValue y false (value p) (2 ^ 1074)
+has_value {y} {p} b = subst (λ (x : Float). HasValue x false (value p) (2 ^ 1074)) b.read (read-value p b.finite)
 
 pub pattern : (y : Float) → T (fits binary64 y) → T (positive y) → Pattern y (to_bits binary64 y)
 pattern y f p = let b = pattern_finite y f p in record { pos = b.0; finite = b.1; written = refl; read = of_bits-to_bits binary64 y f }

@@ -1,6 +1,6 @@
 -- The root is monotone: of two doubles that have roots, the root of the one that is not smaller is not smaller. Zeros, infinity and both signs of
 -- zero included. Assumes nothing.
-use mathlib.Core.Path.{◌≡◌, refl, subst}
+use mathlib.Core.Path.{◌≡◌, refl}
 use mathlib.Core.Bool.{Bool, true, false, ◌||◌, true≢false}
 use mathlib.Core.Logic.{⊎_elim}
 use Prim.Native.Nat.{ℕ, zero, suc, ◌+◌, ◌*◌, ◌^◌, ◌≤◌, ◌<◌}
@@ -11,7 +11,6 @@ use lib.Pow.{pow_pos}
 use lib.IntN.{ℤ}
 use lib.Ieee.{Float, nan, inf, fin, binary64, up, down, of_bits, to_bits, fits, below, level, le, lt, eq}
 use lib.Ieee.Fits.{and_l, and_r}
-use lib.Ieee.Exact.{HasValue}
 use lib.Ieee.Order.{le_of_values}
 use lib.Ieee.Positive.{positive, values_of_le}
 use Rattle.rule.proofs.Tests.{or_left, either}
@@ -20,7 +19,7 @@ use Rattle.root.specs.Root.{root_bits, has_root, root_of}
 use Rattle.root.proofs.Patterns.{value, value_mono}
 use Rattle.root.proofs.Bits.{root_bits-root, root_order}
 use Rattle.root.proofs.Doubles.{root_positive, read-value}
-use Rattle.root.proofs.Correct.{Pattern, pattern, on_patterns, root_correct}
+use Rattle.root.proofs.Correct.{has_value, pattern, on_patterns, root_correct}
 
 -- of two finite positive doubles
 monotone_positive : (a b : Float) → T (fits binary64 a) → T (fits binary64 b) → T (positive a) → T (positive b) → T (le a b) → T (le (root_of a) (root_of b))
@@ -37,9 +36,6 @@ monotone_positive a b f g p q l =
     rw (root_positive a p, root_positive b q)
     (le_of_values (of_bits binary64 (root_bits m)) (of_bits binary64 (root_bits n)) (value (root_bits m)) (2 ^ 1074) (value (root_bits n)) (2 ^ 1074) (pow_pos 1074) (pow_pos 1074) (read-value (root_bits m) R.finite) (read-value (root_bits n) S.finite)
     (mul-le-mul_right (2 ^ 1074) (value_mono o)))
-  where
-    has_value : {y : Float} {k : ℕ} → Pattern y k → HasValue y false (value k) (2 ^ 1074)
-    has_value {y} {k} b = subst (λ (x : Float). HasValue x false (value k) (2 ^ 1074)) b.read (read-value k b.finite)
 
 -- how zeros and signs stand to one another: a and b are magnitudes, no number below zero is at least one that is not, and nothing above zero is at most a zero
 below_zero : (s : Bool) (a b : ℕ) → a ≡ 0 → 0 < b → T (below s a true b || level s a true b) → ⊥

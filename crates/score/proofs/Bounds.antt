@@ -16,19 +16,13 @@ use Rattle.rule.proofs.Zero.{size_pos, no_size}
 use Rattle.root.specs.Root.{root_of}
 use Rattle.root.proofs.Monotone.{root_monotone}
 use Rattle.numbers.specs.Constants.{zero'}
-use Rattle.book.proofs.Clear.{clear-has_root, root-clear}
+use Rattle.book.proofs.Clear.{clear-has_root, compared, root-clear}
 use Rattle.book.proofs.ClearOrder.{lt_le_trans, lt_not_le, le_trans_clear, over_clear}
 use Rattle.score.specs.Limits.{Low, High, no_limit, settled, surely, possibly}
 
 -- ---- a square, against the limits
 
--- a comparison that holds is not of a NaN
-left-number : (x y : Float) → le x y ≡ true → is_nan x ≡ false
-unfolding le lt eq is_nan
-left-number nan y h = clash h refl
-left-number (inf s) y h = refl
-left-number (fin s m e) y h = refl
-
+-- the right side of a comparison that holds is no NaN
 right_number : (x y : Float) → le x y ≡ true → is_nan y ≡ false
 unfolding le lt eq is_nan
 right_number nan y h = clash h refl
@@ -129,7 +123,7 @@ above_clear t h = over_clear zero' t zero_clear h
 
 pub no-high : (thresh : Float) → High thresh no_limit
 unfolding of_bits is_nan possibly
-no-high thresh = record { beyond = λ q f h. clash refl (left-number nan q (not-false (le nan q) h)) }
+no-high thresh = record { beyond = λ q f h. clash refl (compared nan q (not-false (le nan q) h)) }
 
 no-low : (thresh : Float) → Low thresh no_limit
 unfolding of_bits is_nan surely
