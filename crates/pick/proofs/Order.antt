@@ -5,14 +5,14 @@ use mathlib.Core.List.{List, [], ◌∷◌, ◌++◌}
 use Prim.Native.Nat.{ℕ, zero, suc, ◌≤◌}
 use native.Mathlib.Omega.{arith}
 use borrow.Author.Tests.{eq-eqb, ne_eqb, eqb-true}
-use lib.Dec.{T, eqb}
+use lib.Dec.{eqb}
 use lib.ListN.{length}
 use lib.Ieee.{Float}
 use Rattle.rule.specs.Refusal.{SHAPE, ENDED, number_of}
 use Rattle.rule.specs.Order.{Test, first_failed, if_passed}
 use Rattle.rule.specs.declared.Refusal.{Refusal}
 use Rattle.rule.proofs.Views.{number_above_0}
-use Rattle.rule.proofs.Order.{numbered, stops, passes, first_passed, one_failed, all_passed, none_failed}
+use Rattle.rule.proofs.Order.{front, numbered, stops, passes, first_passed, one_failed, none_failed}
 use Rattle.sheet.specs.Marks.{marks_of, shape, point, few, marks_tests}
 use Rattle.sheet.specs.declared.model.Model.{Model}
 use Rattle.sheet.proofs.Places.{count}
@@ -31,13 +31,6 @@ use Rattle.pick.specs.Run.{Run, Answer}
 use Rattle.pick.specs.Trial.{booking_of, answer_of, trial_answer, step_answer, refused_with}
 
 -- ---- tests in front of others
-
-front : (ts rest : List Test) → T (numbered ts) → first_failed (ts ++ rest) ≡ cond (eqb (first_failed ts) 0) (first_failed rest) (first_failed ts)
-front ts rest p = go (first_failed ts) refl
-  where
-    go : (k : ℕ) → first_failed ts ≡ k → first_failed (ts ++ rest) ≡ cond (eqb k 0) (first_failed rest) k
-    go zero e = sym (all_passed ts rest p e)
-    go (suc k) e = rw (ne_eqb (suc k) 0 (λ z. absurd (omega (arith, z)))) (sym (one_failed ts rest (λ z. absurd (let y = sym e ∙ z in omega (arith, y)))) ∙ e)
 
 pub options_first : (o : RansacOptions) (rest : List Test) → first_failed (options_tests o ++ rest) ≡ cond (eqb (first_failed (options_tests o)) 0) (first_failed rest) (first_failed (options_tests o))
 options_first o rest = front (options_tests o) rest (options_above_0 o)

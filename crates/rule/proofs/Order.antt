@@ -4,7 +4,7 @@ use mathlib.Core.Bool.{Bool, true, false, ◌&&◌, cond}
 use mathlib.Core.List.{List, [], ◌∷◌, ◌++◌}
 use Prim.Native.Nat.{ℕ, zero, suc}
 use native.Mathlib.Omega.{arith}
-use lib.Dec.{T, ltb}
+use lib.Dec.{T, ltb, eqb, eqb-suc-zero}
 use lib.Ieee.Fits.{and_i, and_l, and_r}
 use Rattle.rule.specs.Answer.{refused, gives}
 use Rattle.rule.specs.Order.{Test, first_failed, decided, if_passed}
@@ -56,6 +56,14 @@ none_failed ts us h = go (first_failed ts) refl
     go : (k : ℕ) → first_failed ts ≡ k → first_failed ts ≡ 0
     go zero e = e
     go (suc k) e = one_failed ts us (λ z. absurd (let y = sym e ∙ z in omega (arith, y))) ∙ h
+
+-- the number of tests and of others after them
+pub front : (ts us : List Test) → T (numbered ts) → first_failed (ts ++ us) ≡ cond (eqb (first_failed ts) 0) (first_failed us) (first_failed ts)
+front ts us p = go (first_failed ts) refl
+  where
+    go : (k : ℕ) → first_failed ts ≡ k → first_failed (ts ++ us) ≡ cond (eqb k 0) (first_failed us) k
+    go zero e = sym (all_passed ts us p e)
+    go (suc k) e = rw (eqb-suc-zero k) (sym (one_failed ts us (λ z. cc)) ∙ e)
 
 pub numbered_append : (ts us : List Test) → T (numbered ts) → T (numbered us) → T (numbered (ts ++ us))
 unfolding numbered

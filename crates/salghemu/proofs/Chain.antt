@@ -5,7 +5,7 @@ use mathlib.Core.List.{List, [], ◌∷◌, ◌++◌}
 use Prim.Native.Nat.{ℕ, zero, suc, ◌*◌, ◌/◌, ◌%◌, ◌≤◌, ◌<◌}
 use native.Mathlib.Omega.{arith}
 use borrow.Author.Tests.{eqb-true, ltb-false, not-false}
-use lib.Dec.{T, eqb}
+use lib.Dec.{T, eqb, eqb-suc-zero}
 use lib.ListN.{length, take}
 use lib.Ieee.{Float}
 use Rattle.rule.specs.declared.Refusal.{Refusal}
@@ -13,7 +13,7 @@ use Rattle.rule.specs.Refusal.{RECORD, SHAPE, number_of}
 use Rattle.rule.specs.Answer.{Answer, refused, gives}
 use Rattle.rule.specs.Order.{Test, first_failed, room}
 use Rattle.rule.specs.Lists.{filled}
-use Rattle.rule.proofs.Order.{passes, numbered, one_failed, all_passed, first_passed}
+use Rattle.rule.proofs.Order.{front, passes, numbered, first_passed}
 use Rattle.rule.proofs.Lists.{filled_front}
 use Rattle.rule.proofs.Views.{number_above_0}
 use Rattle.sheet.specs.Marks.{marks_of, shape, point, few, marks_tests}
@@ -48,11 +48,11 @@ after_none a = refl
 -- of some tests and those after them
 after_both : (ts us : List Test) → T (numbered ts) → (a : Answer (Winner Model)) → after_tests (first_failed (ts ++ us)) a ≡ after_tests (first_failed ts) (after_tests (first_failed us) a)
 unfolding after_tests
-after_both ts us above a = go (first_failed ts) refl
+after_both ts us above a = rw (front ts us above) (go (first_failed ts))
   where
-    go : (k : ℕ) → first_failed ts ≡ k → after_tests (first_failed (ts ++ us)) a ≡ after_tests k (after_tests (first_failed us) a)
-    go zero h = ap (λ j. after_tests j a) (sym (all_passed ts us above h))
-    go (suc k) h = ap (λ j. after_tests j a) (sym (one_failed ts us (λ z. absurd (let y = sym h ∙ z in omega (arith, y)))) ∙ h)
+    go : (k : ℕ) → after_tests (cond (eqb k 0) (first_failed us) k) a ≡ after_tests k (after_tests (first_failed us) a)
+    go zero = refl
+    go (suc k) = rw (eqb-suc-zero k)
 
 -- of one test alone
 after_one : (fails : Bool) (k : ℕ) (a : Answer (Winner Model)) → 0 < k → after_tests (cond fails k 0) a ≡ cond fails (refused k) a
