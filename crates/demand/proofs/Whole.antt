@@ -20,7 +20,7 @@ use Rattle.rule.proofs.Tests.{neither}
 use Rattle.rule.proofs.Order.{passes, first_passed, all_passed, none_failed}
 use Rattle.sheet.specs.Marks.{marks_of, shape, point, few, marks_tests}
 use Rattle.sheet.specs.declared.model.Model.{Model}
-use Rattle.sheet.proofs.Refused.{shaped}
+use Rattle.sheet.proofs.Places.{shaped}
 use Rattle.book.specs.Score.{Judged}
 use Rattle.book.specs.Book.{Winner, Held, none, held, Book, fresh, book_after, outcomes_of}
 use Rattle.book.specs.Calls.{Called, is_refusal}

@@ -13,7 +13,7 @@ use Rattle.rule.specs.Order.{Test, first_failed, decided, if_passed}
 use Rattle.rule.proofs.Order.{numbered, first_passed, one_failed, all_passed}
 use Rattle.sheet.specs.Marks.{marks_of, shape, few}
 use Rattle.sheet.specs.declared.model.Model.{Model}
-use Rattle.sheet.proofs.Refused.{short_enough}
+use Rattle.sheet.proofs.Places.{short_enough}
 use Rattle.book.specs.Score.{turned_down, Trial, judge_trial, beyond_fit}
 use Rattle.records.specs.Trial.{trial_record, trial_answer, trial_of}
 use Rattle.records.specs.declared.options.RansacOptions.{RansacOptions}

@@ -15,8 +15,7 @@ use Rattle.rule.proofs.Views.{number_above_0}
 use Rattle.rule.proofs.Order.{front, numbered, stops, passes, first_passed, one_failed, none_failed}
 use Rattle.sheet.specs.Marks.{marks_of, shape, point, few, marks_tests}
 use Rattle.sheet.specs.declared.model.Model.{Model}
-use Rattle.sheet.proofs.Places.{count}
-use Rattle.sheet.proofs.Refused.{short_enough, marks_passed}
+use Rattle.sheet.proofs.Places.{count, short_enough}
 use Rattle.book.specs.Score.{Judged, turned_down, Judgement}
 use Rattle.book.specs.Book.{is_refused, entered}
 use Rattle.book.specs.Calls.{is_closed, tried}
@@ -71,7 +70,7 @@ module _ (o : RansacOptions) (n : ℕ) {k : ℕ} (c : Call) (marks : k ≡ lengt
   tested =
       sym (passes (of_run n c.marks) (shape c.marks ∷ rest) of_run_lem)
       ∙ sym (passes (shape c.marks) rest shape_passed)
-      ∙ marks_passed c.marks rest first passed
+      ∙ sym (marks_first c.marks rest ∙ rw (← first, passed))
       ∙ passes (of_run n c.marks) (marks_tests c.marks ++ rest) of_run_lem
 
   pub same-judged : judge_tested o n c ≡ judge_of o n c

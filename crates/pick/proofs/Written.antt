@@ -13,8 +13,7 @@ use Rattle.rule.specs.Order.{first_failed, decided, if_passed, room}
 use Rattle.rule.proofs.Order.{first_passed}
 use Rattle.sheet.specs.Marks.{marks_of, shape, point, few, marks_tests}
 use Rattle.sheet.specs.declared.model.Model.{Model}
-use Rattle.sheet.proofs.Places.{count}
-use Rattle.sheet.proofs.Refused.{short_enough}
+use Rattle.sheet.proofs.Places.{count, short_enough}
 use Rattle.measure.specs.Distances.{distances_of}
 use Rattle.measure.proofs.Squares.{distances-count}
 use Rattle.score.specs.Places.{indices_in, indexed, index_count}

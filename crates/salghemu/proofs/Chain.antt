@@ -19,7 +19,7 @@ use Rattle.rule.proofs.Views.{number_above_0}
 use Rattle.sheet.specs.Marks.{marks_of, shape, point, few, marks_tests}
 use Rattle.sheet.specs.declared.model.Model.{Model}
 use Rattle.sheet.proofs.Places.{count}
-use Rattle.sheet.proofs.Refused.{shaped}
+use Rattle.sheet.proofs.Places.{shaped}
 use Rattle.book.specs.Book.{Winner}
 use Rattle.fields.specs.Fields.{words_of}
 use Rattle.fields.proofs.Reading.{words_count}

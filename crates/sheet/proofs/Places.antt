@@ -1,13 +1,17 @@
--- A list of numbers and its marks: how many there are, and which numbers the mark at a place has. Assumes nothing.
+-- A list of numbers and its marks: how many there are, what its length has to do with its shape's test, and which numbers the mark at a place has. Assumes nothing.
 use mathlib.Core.Path.{◌≡◌, refl, ◌∙◌}
+use mathlib.Core.Bool.{false, not}
 use mathlib.Core.List.{List, [], ◌∷◌}
-use Prim.Native.Nat.{ℕ, zero, suc, ◌+◌, ◌*◌, ◌/◌, ◌≤◌, ◌<◌}
+use Prim.Native.Nat.{ℕ, zero, suc, ◌+◌, ◌*◌, ◌/◌, ◌%◌, ◌≤◌, ◌<◌}
 use native.Mathlib.Nat.{mul-suc}
 use native.Mathlib.Omega.{arith}
+use borrow.Author.Tests.{eq-eqb, le-ltb, ltb-false}
+use lib.Dec.{ltb, eqb}
 use lib.ListN.{length, get_or, length-map, get_or-map}
 use lib.Ieee.{Float, nan}
+use Rattle.rule.proofs.Tests.{neither}
 use Rattle.rule.proofs.Lists.{past_end}
-use Rattle.sheet.specs.Marks.{marks_of, mark_at, no_mark, point_of, points, point_at}
+use Rattle.sheet.specs.Marks.{marks_of, mark_at, no_mark, shape, point_of, points, point_at}
 use Rattle.sheet.specs.declared.marks.Mark.{Mark}
 use Rattle.sheet.specs.declared.marks.Point.{Point}
 use Rattle.sheet.specs.declared.marks.Side.{Side}
@@ -19,6 +23,15 @@ count (x ∷ []) = refl
 count (x ∷ y ∷ []) = refl
 count (x ∷ y ∷ u ∷ []) = refl
 count (x ∷ y ∷ u ∷ v ∷ rest) = let h = count rest in omega arith
+
+module _ (l : List Float) where
+  pub shaped : length l % 4 ≡ 0 → length l ≤ 8000 → (shape l).fails ≡ false
+  unfolding shape
+  shaped fours short = rw (eq-eqb (length l % 4) 0 fours, le-ltb 8000 (length l) short)
+
+  pub short_enough : (shape l).fails ≡ false → length l ≤ 8000
+  unfolding shape
+  short_enough h = ltb-false 8000 (length l) (neither (not (eqb (length l % 4) 0)) (ltb 8000 (length l)) h).1
 
 -- the numbers of a list from place p on, as a mark
 abbrev pub read_at : List Float → ℕ → Mark
