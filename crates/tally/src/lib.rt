@@ -2,10 +2,9 @@
 // original Rust's answers.
 #![tactic(auto)]
 
-ghost use Rattle.std.specs.Prelude.{◌≡◌, ◌++◌, Bool, List, ℕ, eqb, length, MatchResult, Some, None};
+ghost use Rattle.std.specs.Prelude.{◌≡◌, Bool, List, ℕ, eqb, length};
 ghost use Rattle.std.specs.Float.{binary64};
 ghost use Rattle.std.specs.Float.Ieee.{to_bits};
-ghost use Rattle.std.specs.Io.KnownBytes.{Consumes};
 ghost use Rattle.tally.specs.Tally.{one_more, score_after, no_scores, scores_after, Decodes, Replayed};
 
 use std::error::Error;
