@@ -20,35 +20,44 @@ fn numbers_agree(record: &[u8], at: usize, numbers: &[f64]) -> bool
     numbers.iter().enumerate().all(|(i, x)| tally::same(*x, fields::double_at(record, at + i)))
 }
 
-// Whether an entry answers what a record says: word 4 is the number of its refusal, or 0. `answer` says
-// whether what it gives is the record's; of a refused call nothing is given, and the words are zeros.
-fn answer_agrees(record: &[u8], answer: Result<bool, Refusal>) -> bool {
-    let given = match answer {
-        Ok(right) => right,
-        Err(_) => fields::zero_bytes(record, 8 * 116, 8 * 125),
-    };
-    given && fields::long_at(record, 4) == u64::from(rule::number(answer))
+// Whether an answer is refused as a record says: word 4 is the refusal's number, or 0.
+fn refusal_agrees<T: Copy>(record: &[u8], answer: Result<T, Refusal>) -> bool {
+    fields::long_at(record, 4) == u64::from(rule::number(answer))
 }
 
-// An entry over marks: word 2 says how many numbers these are, and word 3 how long the lent list is,
-// which holds 7.0 at each place before the call, and after it the words from 25 on.
-fn call_agrees<F: Fn(Points, &mut [f64]) -> Result<bool, Refusal>>(record: &[u8], entry: F) -> bool
+// The input of an entry over marks.
+fn input(record: &[u8]) -> [f64; 20] {
+    array::from_fn(|i| fields::double_at(record, 5 + i))
+}
+
+// The points that a record asks for: word 2 says how many of the input's numbers there are.
+fn points<'a>(record: &[u8], input: &'a [f64; 20]) -> Option<Points<'a>> {
+    let len = fields::long_at(record, 2);
+    if len > 20 {
+        return None;
+    }
+    let marks = &input[..len as usize];
+    let side = Side::from(fields::long_at(record, 1));
+    Some(Points { marks, side })
+}
+
+// An entry with a lent list: word 3 says how long it is. It holds 7.0 at each place before the call,
+// and after it the words from 25 on.
+fn lent_agrees<F: Fn(Points, &mut [f64]) -> Result<bool, Refusal>>(record: &[u8], entry: F) -> bool
     requires { F.IsAlwaysCallable entry }
 {
-    let len = fields::long_at(record, 2);
     let room = fields::long_at(record, 3);
-    if len > 20 || room > 91 {
+    let input = input(record);
+    let Some(points) = points(record, &input) else {
+        return false;
+    };
+    if room > 91 {
         return false;
     }
-    let all: [f64; 20] = array::from_fn(|i| fields::double_at(record, 5 + i));
-    let points = Points {
-        marks: &all[..len as usize],
-        side: Side::from(fields::long_at(record, 1)),
-    };
     let mut lent = [7.0; 91];
     let lent = &mut lent[..room as usize];
     let answer = entry(points, lent);
-    answer_agrees(record, answer) && numbers_agree(record, 25, lent)
+    refusal_agrees(record, answer) && answer.unwrap_or(true) && numbers_agree(record, 25, lent)
 }
 
 fn matrix_agrees(record: &[u8], n: Normalized) -> bool {
@@ -57,21 +66,25 @@ fn matrix_agrees(record: &[u8], n: Normalized) -> bool {
         && numbers_agree(record, 122, &n.matrix[2].cells)
 }
 
+// Of a refused call there is no matrix: zeros.
 fn normalising_agrees(record: &[u8]) -> bool {
-    call_agrees(record, |points, lent| {
+    lent_agrees(record, |points, lent| {
         linalg::normalize_points_2d(points, lent).map(|n| matrix_agrees(record, n))
-    })
+    }) && (fields::long_at(record, 4) == 0 || fields::zero_bytes(record, 8 * 116, 8 * 125))
 }
 
 fn collinear_agrees(record: &[u8]) -> bool {
+    let input = input(record);
+    let Some(points) = points(record, &input) else {
+        return false;
+    };
     let told = fields::long_at(record, 116);
-    call_agrees(record, |points, _| {
-        line::points_are_collinear(points).map(|yes| told == u64::from(yes))
-    })
+    let answer = line::points_are_collinear(points);
+    refusal_agrees(record, answer) && answer.map_or(true, |yes| told == u64::from(yes))
 }
 
 fn rows_agree(record: &[u8]) -> bool {
-    call_agrees(
+    lent_agrees(
         record,
         |points, lent| homography::dlt_rows(points.marks, lent).map(|()| true),
     )
@@ -98,10 +111,8 @@ fn measure_agrees(record: &[u8], measured: Option<f64>) -> bool {
 fn distance_agrees(record: &[u8]) -> bool {
     let ratio = fields::double_at(record, 18);
     let answer = sheet::distance(model(record), mark(record), ratio);
-    answer_agrees(
-        record,
-        answer.map(|measured| measure_agrees(record, measured)),
-    )
+    refusal_agrees(record, answer)
+        && answer.map_or(true, |measured| measure_agrees(record, measured))
 }
 
 // The entry of each kind of record.
