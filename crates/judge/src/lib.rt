@@ -138,6 +138,7 @@ pub fn judge(o: RansacOptions, n: usize, call: Call) -> Result<Judgement<Standin
 // ascending, and answers how many; nothing where it has not a place for each mark, or there are over
 // 2,000. The squares of the model are then at the front of `squares`. Where nothing is written it answers
 // 0, as where no mark is within, and it can't refuse: who calls it has tested the marks and the room.
+// (How many, beside a list that is lent: document 01's form of an index list.)
 #[tactic(auto, using(crate::proofs::Measured::writes), unfolding(rule::specs::Lists::filled, score::specs::Places::index_count, score::specs::Places::indexed, score::specs::Places::cramped))]
 pub fn write_inliers(
     o: RansacOptions,

@@ -110,7 +110,8 @@ fn refused(s: State, refusal: Refusal) -> Tried
     }
 }
 
-// One trial over marks that were tested before: refused with 10, 5, 7, 8 or 1, in this order.
+// One trial over marks that were tested before: refused with 10, 5, 7, 8 or 1, in this order. (Beside
+// `trial`: the opening has tested the marks, and each trial would test them again.)
 pub fn step(s: State, call: Call) -> Tried
     ensures { view_tried result ≡ step_answer (view_state s) (call_of call.entry) }
 {

@@ -63,6 +63,7 @@ fn read_mark_bytes<R: Files>(rt: &R, bytes: &mut [u8; 64000]) -> usize
 
 // Reads marks.bin into the front of `numbers`: those that the opening is given.
 pub(crate) fn read_marks<'b, R: Files>(rt: &R, numbers: &'b mut [f64; 8000]) -> &'b [f64] {
+    // no heap
     let mut bytes = [0u8; 64000];
     let len = read_mark_bytes(rt, &mut bytes);
     // of a file that is longer than any, the opening is given one number, so no matter which
@@ -72,7 +73,7 @@ pub(crate) fn read_marks<'b, R: Files>(rt: &R, numbers: &'b mut [f64; 8000]) -> 
 
 // Reads stops.bin into the front of `entries`: those that the opening is given.
 pub(crate) fn read_stops<'b, R: Files>(rt: &R, entries: &'b mut [u32; 2001]) -> &'b [u32] {
-    // one byte more than the longest has, so that a longer file has a wrong length too
+    // no heap; one byte more than the longest has, so that a longer file has a wrong length too
     let mut bytes = [0u8; 8005];
     let bytes = read_file(rt, "stops.bin", &mut bytes);
     fields::read_words(bytes, entries);

@@ -103,7 +103,8 @@ impl<'a> Run<'a> {
 }
 
 fn main(rt: HostRuntime) -> io::Result<()> {
-    // one byte more than the longer kind of record has, so that a longer file has a wrong length too
+    // no heap; one byte more than the longer kind of record has, so that a longer file has a wrong length
+    // too
     let mut record = [0u8; 41];
     let record = files::read_file(&rt, "options.bin", &mut record);
     // no heap, so there are places for the longest run, of 2,000 marks

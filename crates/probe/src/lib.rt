@@ -1,5 +1,6 @@
 // The leaves and entries for the comparison with the Rust: each one exported with plain numbers, over the C
-// calling convention. A NaN stands where an answer has no number.
+// calling convention. A NaN stands where an answer has no number. What has two numbers
+// is two functions, since C takes one from a call.
 #![tactic(auto)]
 
 mod geometry;

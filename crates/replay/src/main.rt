@@ -81,6 +81,7 @@ impl Answers for Leaves {
 
 fn main(rt: HostRuntime) -> io::Result<()> {
     let mut file = File::open(&rt, "answers.bin")?;
+    // no heap, so a record has its places here
     let scores = tally::replay_all::<Leaves, _>(&mut file, &mut [0; 96]);
     scores.print(&rt, ["roots", "quadratics", "ranks", "finite lists"])
 }

@@ -54,6 +54,7 @@ fn lent_agrees<F: Fn(Points, &mut [f64]) -> Result<bool, Refusal>>(record: &[u8]
     if room > 91 {
         return false;
     }
+    // no heap, so there is room for the longest list of a record
     let mut lent = [7.0; 91];
     let lent = &mut lent[..room as usize];
     let answer = entry(points, lent);
@@ -134,6 +135,7 @@ impl Answers for Entries {
 
 fn main(rt: HostRuntime) -> io::Result<()> {
     let mut file = File::open(&rt, "sheets.bin")?;
+    // no heap, so a record has its places here
     let scores = tally::replay_all::<Entries, _>(&mut file, &mut [0; 1024]);
     scores.print(&rt, ["normalisings", "collinear", "rows", "distances"])
 }

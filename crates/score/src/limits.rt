@@ -15,7 +15,7 @@ pub struct Limits {
 }
 
 // A limit where it settles anything. Else a NaN: it compares with nothing, where an `Option` would add a
-// case to each of the four methods that only compare.
+// case to each of the three methods that compare with it.
 #[tactic(auto, unfolding(crate::specs::Limits::settled))]
 fn settled(thresh: f64, limit: f64, settles: bool) -> f64
     ensures { result ≡ settled thresh limit settles }

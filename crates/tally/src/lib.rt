@@ -55,7 +55,7 @@ pub struct Score {
     pub all: u64,
 }
 
-// One more, up to a number that no list reaches.
+// One more, up to a number that no list reaches. (std's saturating sum ends at another one.)
 #[tactic(auto, unfolding(crate::specs::Tally::one_more))]
 fn more(n: u64) -> u64
     ensures { result ≡ one_more n }

@@ -1,4 +1,4 @@
--- `writer::write_options` meets its contract. Assumes nothing.
+-- `writer::write_options` meets its contract. The check finds this too, with less than half its time to spare. Assumes nothing.
 use native.Mathlib.Omega.{arith}
 use Rattle.writer.proofs.OfOptions.{options_answered, options_laid}
 use Rattle.writer.proofs.options.write_options.Goals as goal

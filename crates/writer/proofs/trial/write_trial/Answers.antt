@@ -1,4 +1,4 @@
--- `writer::write_trial` meets its contract. Assumes nothing.
+-- `writer::write_trial` meets its contract. The check finds this too, with less than half its time to spare. Assumes nothing.
 use native.Mathlib.Omega.{arith}
 use Rattle.writer.proofs.OfTrial.{trial_answered, trial_laid}
 use Rattle.writer.proofs.trial.write_trial.Goals as goal
