@@ -7,7 +7,7 @@
 use numbers::Quadratic;
 use std::fs::File;
 use std::{array, io};
-use tally::{Answers, Kind};
+use tally::{Answers, Kind, Report};
 
 // Whether each leaf answers what a record says.
 
@@ -83,5 +83,6 @@ fn main(rt: HostRuntime) -> io::Result<()> {
     let mut file = File::open(&rt, "answers.bin")?;
     // no heap, so a record has its places here
     let scores = tally::replay_all::<Leaves, _>(&mut file, &mut [0; 96]);
-    scores.print(&rt, ["roots", "quadratics", "ranks", "finite lists"])
+    let names = ["roots", "quadratics", "ranks", "finite lists"];
+    print!(&rt; "{}", Report { names, scores })
 }

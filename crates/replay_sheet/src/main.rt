@@ -11,7 +11,7 @@ use rule::Refusal;
 use sheet::{Mark, Model, Points, Side};
 use std::fs::File;
 use std::{array, io};
-use tally::{Answers, Kind};
+use tally::{Answers, Kind, Report};
 
 // Numbers of a record, whose words start at `at`.
 fn numbers_agree(record: &[u8], at: usize, numbers: &[f64]) -> bool
@@ -137,5 +137,6 @@ fn main(rt: HostRuntime) -> io::Result<()> {
     let mut file = File::open(&rt, "sheets.bin")?;
     // no heap, so a record has its places here
     let scores = tally::replay_all::<Entries, _>(&mut file, &mut [0; 1024]);
-    scores.print(&rt, ["normalisings", "collinear", "rows", "distances"])
+    let names = ["normalisings", "collinear", "rows", "distances"];
+    print!(&rt; "{}", Report { names, scores })
 }

@@ -8,8 +8,8 @@ ghost use Rattle.std.specs.Float.Ieee.{to_bits};
 ghost use Rattle.tally.specs.Tally.{one_more, score_after, no_scores, scores_after, Decodes, Replayed};
 
 use std::error::Error;
+use std::fmt;
 use std::io::Read;
-use std::{fmt, io};
 
 // The kind of a record, which its first word says: a list has four.
 #[derive(Clone, Copy, Debug, PartialEq, Eq, Hash)]
@@ -114,13 +114,21 @@ impl Scores {
         }
         next
     }
+}
 
-    // A line for each kind, by its name. What is written is no part of a contract.
-    pub fn print(self, rt: &impl Print, names: [&str; 4]) -> io::Result<()> {
-        for (name, score) in names.iter().zip(&self.kinds) {
-            println!(rt; "{name} {score}")?;
+// The scores as a program prints them: a line for each kind, by its name.
+#[derive(Clone, Copy)]
+pub struct Report<'a> {
+    pub names: [&'a str; 4],
+    pub scores: Scores,
+}
+
+impl<'a> fmt::Display for Report<'a> {
+    fn fmt<W: fmt::Write>(&self, f: &mut fmt::Formatter<W>) -> fmt::Result {
+        for (name, score) in self.names.iter().zip(&self.scores.kinds) {
+            writeln!(f, "{name} {score}")?;
         }
-        println!(rt; "unknown kinds {}", self.unknown)
+        writeln!(f, "unknown kinds {}", self.scores.unknown)
     }
 }
 
