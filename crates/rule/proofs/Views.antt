@@ -33,6 +33,7 @@ in-order =
     ∷ Refusals.PixelLine
     ∷ Refusals.Number
     ∷ Refusals.Ratio
+    ∷ Refusals.Camera
     ∷ []
 
 refusal_of : ℕ → Refusal
@@ -56,6 +57,7 @@ numbered Refusals.SheetLine = refl
 numbered Refusals.PixelLine = refl
 numbered Refusals.Number = refl
 numbered Refusals.Ratio = refl
+numbered Refusals.Camera = refl
 
 -- 0 is no refusal's number
 pub number_above_0 : {A : Type 0} (e : Refusal) → number_of e ≡ 0 → A
@@ -75,6 +77,7 @@ number_above_0 Refusals.SheetLine h = absurd (omega (arith, h))
 number_above_0 Refusals.PixelLine h = absurd (omega (arith, h))
 number_above_0 Refusals.Number h = absurd (omega (arith, h))
 number_above_0 Refusals.Ratio h = absurd (omega (arith, h))
+number_above_0 Refusals.Camera h = absurd (omega (arith, h))
 
 module _ {A B : Type 0} (view : A → B) (back : B → A) (undone : (a : A) → back (view a) ≡ a) where
   result_of : Answer B → Result A Refusal

@@ -19,7 +19,7 @@ CONFIDENCE = 3
 abbrev pub ITERS : ℕ
 ITERS = 4
 
--- numbers not a multiple of 4, over 8,000, or n not the run's
+-- not a whole number of marks, over 8,000 numbers, or n not the run's
 abbrev pub SHAPE : ℕ
 SHAPE = 5
 
@@ -27,7 +27,7 @@ SHAPE = 5
 abbrev pub POINT : ℕ
 POINT = 6
 
--- under 4 marks
+-- under 4 marks, or 6 of a form
 abbrev pub FEW : ℕ
 FEW = 7
 
@@ -67,6 +67,10 @@ NUMBER = 15
 abbrev pub RATIO : ℕ
 RATIO = 16
 
+-- a number of the camera is not finite, or of magnitude above 1e9
+abbrev pub CAMERA : ℕ
+CAMERA = 17
+
 -- the number of each refusal of the code
 abbrev pub number_of : Refusal → ℕ
 number_of Refusals.Record = RECORD
@@ -85,3 +89,4 @@ number_of Refusals.SheetLine = SHEET_LINE
 number_of Refusals.PixelLine = PIXEL_LINE
 number_of Refusals.Number = NUMBER
 number_of Refusals.Ratio = RATIO
+number_of Refusals.Camera = CAMERA

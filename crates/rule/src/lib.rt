@@ -27,6 +27,7 @@ pub enum Refusal {
     PixelLine = 14,
     Number = 15,
     Ratio = 16,
+    Camera = 17,
 }
 
 impl From<Refusal> for u32 {

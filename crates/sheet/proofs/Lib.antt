@@ -1,4 +1,2 @@
-pub mod Range
 pub mod Places
 pub mod Ratio
-pub mod View

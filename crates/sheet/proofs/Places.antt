@@ -1,4 +1,4 @@
--- A list of numbers and its marks: how many there are, what its length has to do with its shape's test, and which numbers the mark at a place has. Assumes nothing.
+-- A list of numbers and its marks: which numbers the mark at a place has, and the points of a side. Assumes nothing.
 use mathlib.Core.Path.{◌≡◌, refl, ◌∙◌}
 use mathlib.Core.Bool.{false, not}
 use mathlib.Core.List.{List, [], ◌∷◌}
@@ -11,27 +11,11 @@ use lib.ListN.{length, get_or, length-map, get_or-map}
 use lib.Ieee.{Float, nan}
 use Rattle.rule.proofs.Tests.{neither}
 use Rattle.rule.proofs.Lists.{past_end}
-use Rattle.sheet.specs.Marks.{marks_of, mark_at, no_mark, shape, point_of, points, point_at}
+use Rattle.sheet.specs.Marks.{marks_of, mark_at, no_mark, point_of, points, point_at}
+use Rattle.sheet.specs.Owed.{counts}
 use Rattle.sheet.specs.declared.marks.Mark.{Mark}
 use Rattle.sheet.specs.declared.marks.Point.{Point}
 use Rattle.sheet.specs.declared.marks.Side.{Side}
-
-pub count : (l : List Float) → length (marks_of l) ≡ length l / 4
-unfolding marks_of
-count [] = refl
-count (x ∷ []) = refl
-count (x ∷ y ∷ []) = refl
-count (x ∷ y ∷ u ∷ []) = refl
-count (x ∷ y ∷ u ∷ v ∷ rest) = let h = count rest in omega arith
-
-module _ (l : List Float) where
-  pub shaped : length l % 4 ≡ 0 → length l ≤ 8000 → (shape l).fails ≡ false
-  unfolding shape
-  shaped fours short = rw (eq-eqb (length l % 4) 0 fours, le-ltb 8000 (length l) short)
-
-  pub short_enough : (shape l).fails ≡ false → length l ≤ 8000
-  unfolding shape
-  short_enough h = ltb-false 8000 (length l) (neither (not (eqb (length l % 4) 0)) (ltb 8000 (length l)) h).1
 
 -- the numbers of a list from place p on, as a mark
 abbrev pub read_at : List Float → ℕ → Mark
@@ -57,13 +41,16 @@ read (x ∷ y ∷ u ∷ v ∷ rest) (suc i) h = rw (mul-suc 4 i) (later x y u v 
 
 pub no_mark_lem : (l : List Float) (i : ℕ) → length l / 4 ≤ i → no_mark ≡ mark_at l i
 unfolding mark_at
-no_mark_lem l i h = past_end (marks_of l) i no_mark (rw (count l) h)
+no_mark_lem l i h = past_end (marks_of l) i no_mark (rw (counts l) h)
 
 -- ---- the points of a side
 
 pub points_count : (side : Side) (l : List Float) → length (points side l) ≡ length (marks_of l)
 unfolding points
 points_count side l = length-map (marks_of l) (point_of side)
+
+pub points_quarter : (side : Side) (l : List Float) → length (points side l) ≡ length l / 4
+points_quarter side l = points_count side l ∙ counts l
 
 abbrev pub no_point : Side → Point
 no_point side = point_of side no_mark

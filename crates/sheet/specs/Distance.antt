@@ -1,17 +1,13 @@
 -- Document 01, 'Distance', and document 02, orders 2 and 3: the projection by a homography, and the distance of a mark under it by the row ratio, or that the
 -- mark is beyond. (In the terms of the field, the reprojection residual.)
-use Rattle.std.specs.Prelude.{Bool, not, cond, List, [], ◌∷◌, get_or, Option, Some, None, Float}
-use Rattle.std.specs.Float.Ieee.{lt, le}
-use Rattle.rule.specs.Refusal.{RECORD}
-use Rattle.rule.specs.Answer.{Answer}
-use Rattle.rule.specs.Order.{Test, first_failed, decided}
+use Rattle.std.specs.Prelude.{Bool, not, cond, List, [], ◌∷◌, get_or, Float}
+use Rattle.std.specs.Float.Ieee.{lt}
 use Rattle.rule.specs.Arith.{◌⊕◌, ◌⊖◌, ◌⊗◌, ◌⊘◌}
 use Rattle.root.specs.Root.{root_of}
 use Rattle.numbers.specs.Constants.{zero'}
-use Rattle.numbers.specs.Finite.{all_finite}
-use Rattle.numbers.specs.Measure.{Measure, beyond, distance, as_distance}
-use Rattle.numbers.specs.Ratio.{ratio, squared_off}
-use Rattle.sheet.specs.Marks.{point_of, squared_apart, mark_numbers, point}
+use Rattle.numbers.specs.Measure.{Measure, beyond, distance}
+use Rattle.numbers.specs.Ratio.{squared_off}
+use Rattle.sheet.specs.Marks.{point_of, squared_apart}
 use Rattle.sheet.specs.declared.marks.Mark.{Mark}
 use Rattle.sheet.specs.declared.marks.Point.{Point}
 use Rattle.sheet.specs.declared.marks.Side.TheVariants.{Sheet, Pixel}
@@ -53,46 +49,12 @@ beyond_under h m = not (lt zero' (projection_of h (point_of Sheet m)).s)
 unfoldable pub squared_residual : (ratio : Float) → (to pixel : Point) → Float
 squared_residual ratio to pixel = squared_off ratio (to.x ⊖ pixel.x) (to.y ⊖ pixel.y)
 
--- that square, and none where the mark is beyond
-unfoldable pub squared_distance_of : (ratio : Float) → Model → Mark → Option Float
-squared_distance_of ratio h m =
-    let to = projection_of h (point_of Sheet m) in
-    cond (beyond_under h m) None (Some (squared_residual ratio to.at (point_of Pixel m)))
+-- the square of the distance
+unfoldable pub square_under : (ratio : Float) → Model → Mark → Float
+square_under ratio h m = squared_residual ratio (projection_of h (point_of Sheet m)).at (point_of Pixel m)
 
--- Beyond, or else the root of that square; where the square is a NaN, so is the distance.
-unfoldable pub measure_of : (ratio : Float) → Model → Mark → Measure
-measure_of ratio h m =
-    let to = projection_of h (point_of Sheet m) in
-    cond (beyond_under h m) beyond (distance (root_of (squared_residual ratio to.at (point_of Pixel m))))
-
--- 01's distance: infinite unless s > 0
-unfoldable pub distance_of : (ratio : Float) → Model → Mark → Float
-distance_of ratio h m = as_distance (measure_of ratio h m)
-
--- 01's own, from before there was a ratio: of square pixels
+-- 01's own distance, from before there was a ratio: of square pixels
 unfoldable pub plain_measure_of : Model → Mark → Measure
 plain_measure_of h m =
     let to = projection_of h (point_of Sheet m) in
     cond (beyond_under h m) beyond (distance (root_of (squared_apart to.at (point_of Pixel m))))
-
--- The mark lies within the threshold under the model: in the terms of the field, it is an inlier. A NaN is not within it.
-unfoldable pub inlier : (ratio : Float) → Model → Float → Mark → Bool
-inlier ratio h thresh m = le (distance_of ratio h m) thresh
-
--- ---- the entry
-
--- 1: a number of the model is not finite
-unfoldable pub model : Model → Test
-model h = record { fails = not (all_finite (model_numbers h)); number = RECORD }
-
--- 1, 6, 16
-unfoldable pub distance_tests : (ratio : Float) → Model → Mark → List Test
-distance_tests r h m = model h ∷ point (mark_numbers m) ∷ ratio r ∷ []
-
-unfoldable pub distance_answer : (ratio : Float) → Model → Mark → Answer Measure
-distance_answer r h m = decided (first_failed (distance_tests r h m)) (measure_of r h m)
-
--- what the code's distance stands for
-abbrev pub measured : Option Float → Measure
-measured (Some d) = distance d
-measured None = beyond

@@ -1,2 +1,4 @@
 pub mod Marks
 pub mod Distance
+pub mod Sheets
+pub mod Owed

@@ -1,11 +1,7 @@
--- Document 01, 'Marks': a list of numbers, four to a mark; the points of a side; and the tests that every entry makes of the list.
-use Rattle.std.specs.Prelude.{Bool, not, ◌||◌, List, [], ◌∷◌, map, ℕ, zero, suc, ◌%◌, ltb, eqb, length, get_or, Float}
-use Rattle.rule.specs.Refusal.{SHAPE, POINT, FEW}
-use Rattle.rule.specs.Order.{Test}
-use Rattle.rule.specs.Lists.{every}
+-- Document 01, 'Marks': a list of numbers, four to a mark; and the points of a side.
+use Rattle.std.specs.Prelude.{List, [], ◌∷◌, map, ℕ, zero, suc, get_or, Float}
 use Rattle.rule.specs.Arith.{◌⊕◌, ◌⊖◌, ◌⊗◌}
-use Rattle.numbers.specs.Constants.{zero', farthest}
-use Rattle.numbers.specs.Finite.{within}
+use Rattle.numbers.specs.Constants.{zero'}
 use Rattle.sheet.specs.declared.marks.Mark.{Mark}
 use Rattle.sheet.specs.declared.marks.Point.{Point}
 use Rattle.sheet.specs.declared.marks.Side.{Side}
@@ -59,29 +55,3 @@ squared_apart p q =
     let dx = p.x ⊖ q.x in
     let dy = p.y ⊖ q.y in
     dx ⊗ dx ⊕ dy ⊗ dy
-
--- ---- the tests
-
--- 5: not a multiple of 4 numbers, or over 8,000
-unfoldable pub shape : List Float → Test
-shape l = record { fails = not (eqb (length l % 4) 0) || ltb 8000 (length l); number = SHAPE }
-
--- every number finite and of magnitude at most the limit
-unfoldable pub all_within : Float → List Float → Bool
-all_within limit l = every (within limit) l
-
--- 6: any number not finite, or of magnitude above 1e9
-unfoldable pub point : List Float → Test
-point l = record { fails = not (all_within farthest l); number = POINT }
-
--- 7: under 4 marks
-unfoldable pub few : List Float → Test
-few l = record { fails = ltb (length (marks_of l)) 4; number = FEW }
-
--- the one that takes no walk over the numbers
-unfoldable pub shape_tests : List Float → List Test
-shape_tests l = shape l ∷ []
-
--- what every entry asks of its marks first
-unfoldable pub marks_tests : List Float → List Test
-marks_tests l = shape l ∷ point l ∷ []

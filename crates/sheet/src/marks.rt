@@ -1,12 +1,6 @@
 // Marks as every entry reads them (document 01, 'Marks'): a list of doubles, four to a mark.
 ghost use Rattle.std.specs.Prelude.{◌≡◌, length};
-ghost use Rattle.rule.specs.Answer.{refusal_in};
-ghost use Rattle.rule.specs.Order.{first_failed};
-ghost use Rattle.numbers.specs.Constants.{farthest};
-ghost use Rattle.numbers.specs.Finite.{within};
-ghost use Rattle.sheet.specs.Marks.{marks_of, mark_of, mark_numbers, mark_at, side_of, point_of, point_at, points, squared_apart, all_within, shape_tests, marks_tests};
-
-use rule::Refusal;
+ghost use Rattle.sheet.specs.Marks.{mark_of, mark_numbers, mark_at, side_of, point_of, point_at, points, squared_apart};
 
 // A printed mark: where it is on the sheet, and where the camera saw it. In the terms of the field, a
 // point correspondence.
@@ -58,14 +52,6 @@ impl From<u64> for Side {
     }
 }
 
-// How many marks: those that the list has in full.
-#[tactic(auto, using(crate::proofs::Places::count))]
-pub fn mark_count(marks: &[f64]) -> usize
-    ensures { result ≡ length (marks_of marks.now) }
-{
-    marks.len() / 4
-}
-
 // The mark at place `i`; all zeros where there is none.
 #[tactic(auto, using(crate::proofs::Places::read, crate::proofs::Places::no_mark_lem))]
 pub fn mark_at(marks: &[f64], i: usize) -> Mark
@@ -103,11 +89,11 @@ pub struct Points<'a> {
 }
 
 impl<'a> Points<'a> {
-    #[tactic(auto, using(crate::proofs::Places::points_count))]
+    #[tactic(auto, using(crate::proofs::Places::points_quarter))]
     pub fn len(self) -> usize
         ensures { result ≡ length (points self.entry.side self.entry.marks.now) }
     {
-        mark_count(self.marks)
+        self.marks.len() / 4
     }
 
     // The point at place `i`; zeros where there is none.
@@ -127,51 +113,4 @@ pub fn squared_apart(p: Point, q: Point) -> f64
     let dx = p.x - q.x;
     let dy = p.y - q.y;
     dx * dx + dy * dy
-}
-
-// Finite, and of magnitude at most 1e9: by two comparisons, since every mark is tested.
-#[tactic(auto, using(crate::proofs::Range::in_range, crate::proofs::Range::out_of_range))]
-fn in_range(x: f64) -> bool
-    ensures { result ≡ within farthest x }
-{
-    (-1e9 <= x) & (x <= 1e9)
-}
-
-// Whether every number is in range. All are looked at: where nearly every list passes, a jump for each
-// number is what takes the time.
-#[tactic(auto, unfolding(crate::specs::Marks::all_within), using(std::proofs::lemmas::List::Folds::list_all_more))]
-pub fn all_in_range(numbers: &[f64]) -> bool
-    ensures { result ≡ all_within farthest numbers.now }
-{
-    let mut all = true;
-    for x in numbers {
-        all &= in_range(*x);
-    }
-    all
-}
-
-// The test of a list's shape, four numbers to a mark and 8,000 at most: refused with 5.
-#[tactic(auto, unfolding(rule::specs::Order::first_failed, crate::specs::Marks::shape_tests, crate::specs::Marks::shape))]
-pub fn check_shape(marks: &[f64]) -> Result<(), Refusal>
-    ensures { refusal_in result ≡ first_failed (shape_tests marks.now) }
-{
-    if marks.len() % 4 != 0 {
-        return Err(Refusal::Shape);
-    }
-    if 8000 < marks.len() {
-        return Err(Refusal::Shape);
-    }
-    Ok(())
-}
-
-// The tests of a list of marks, in order: refused with 5 or 6.
-#[tactic(auto, unfolding(rule::specs::Order::first_failed, crate::specs::Marks::marks_tests, crate::specs::Marks::shape_tests, crate::specs::Marks::shape, crate::specs::Marks::point))]
-pub fn check_marks(marks: &[f64]) -> Result<(), Refusal>
-    ensures { refusal_in result ≡ first_failed (marks_tests marks.now) }
-{
-    check_shape(marks)?;
-    if !all_in_range(marks) {
-        return Err(Refusal::Point);
-    }
-    Ok(())
 }

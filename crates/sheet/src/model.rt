@@ -1,14 +1,9 @@
-// The distance of a mark under a candidate (document 01, 'Distance') by the row ratio (document 02,
-// order 3), or that the mark is beyond (order 2): every operation once, in 01's order.
+// Candidates of a sheet, and what they make of a point (document 01, 'Distance'): every operation once,
+// in 01's order.
 ghost use Rattle.std.specs.Prelude.{◌≡◌};
-ghost use Rattle.rule.specs.Answer.{told};
-ghost use Rattle.numbers.specs.Finite.{all_finite};
-ghost use Rattle.numbers.specs.Constants.{farthest};
-ghost use Rattle.sheet.specs.Marks.{all_within, mark_numbers};
-ghost use Rattle.sheet.specs.Distance.{projection_of, squared_residual, squared_distance_of, measure_of, distance_answer, measured, model_of, model_numbers};
+ghost use Rattle.sheet.specs.Distance.{projection_of, squared_residual, model_of, model_numbers};
 
-use crate::marks::{Mark, Point, Side, all_in_range, point_of};
-use rule::Refusal;
+use crate::marks::Point;
 
 // A candidate: the homography from the sheet to pixels, row by row.
 #[derive(Clone, Copy)]
@@ -84,54 +79,6 @@ pub fn squared_residual(to: Point, pixel: Point, ratio: f64) -> f64
     numbers::squared_off(ratio, to.x - pixel.x, to.y - pixel.y)
 }
 
-// The square of the distance, for any numbers: none where the mark is beyond, that is unless s > 0. It
-// is worked out either way, so that the compiler may make it a choice of two numbers and no jump. (Model,
-// mark and ratio are arguments of a distance by document 01, and by 02, order 3.)
-#[tactic(auto, unfolding(crate::specs::Distance::squared_distance_of, crate::specs::Distance::beyond_under))]
-pub fn squared_distance(h: Model, m: Mark, ratio: f64) -> Option<f64>
-    ensures { result ≡ squared_distance_of ratio h m }
-{
-    let to = project(h, point_of(m, Side::Sheet));
-    let square = squared_residual(to.at, point_of(m, Side::Pixel), ratio);
-    (to.s > 0.0).then_some(square)
-}
-
-// The distance for any numbers, none where the mark is beyond. It refuses nothing.
-#[tactic(auto, unfolding(crate::specs::Distance::measure_of, crate::specs::Distance::squared_distance_of))]
-pub fn residual(h: Model, m: Mark, ratio: f64) -> Option<f64>
-    ensures { measured result ≡ measure_of ratio h m }
-{
-    squared_distance(h, m, ratio).map(root::sqrt)
-}
-
-// Whether every number of a candidate is finite.
-pub fn model_finite(h: Model) -> bool
-    ensures { result ≡ all_finite (model_numbers h) }
-{
-    numbers::ensure_finite(&h.numbers())
-}
-
-fn mark_in_range(m: Mark) -> bool
-    ensures { result ≡ all_within farthest (mark_numbers m) }
-{
-    all_in_range(&m.numbers())
-}
-
-// The distance of a mark under a candidate by a row ratio, none where the mark is beyond; refused with 1
-// where a number of the candidate is not finite, then with 6 where one of the mark is out of range, then
-// with 16 where the ratio is not from 0.01 to 100.
-#[tactic(auto, unfolding(rule::specs::Order::first_failed, rule::specs::Order::decided, crate::specs::Distance::distance_answer, crate::specs::Distance::distance_tests, crate::specs::Distance::model, crate::specs::Marks::point, numbers::specs::Ratio::ratio))]
-pub fn distance(h: Model, m: Mark, ratio: f64) -> Result<Option<f64>, Refusal>
-    ensures { told measured result ≡ distance_answer ratio h m }
-{
-    if !model_finite(h) {
-        return Err(Refusal::Record);
-    }
-    if !mark_in_range(m) {
-        return Err(Refusal::Point);
-    }
-    if !numbers::ratio_accepted(ratio) {
-        return Err(Refusal::Ratio);
-    }
-    Ok(residual(h, m, ratio))
-}
+// The measuring of a sheet's marks: by nothing else than the candidate and the ratio.
+#[derive(Clone, Copy)]
+pub struct Sheet;

@@ -5,7 +5,7 @@ use Rattle.rule.specs.Answer.{told}
 use Rattle.rule.specs.declared.Refusal.{Refusal}
 use Rattle.rule.proofs.Views.{told_one}
 use Rattle.numbers.specs.Measure.{Measure, beyond, distance}
-use Rattle.sheet.specs.Distance.{measured}
+use Rattle.estimator.specs.Entry.{measured}
 
 back : Measure → Option Float
 back (distance d) = Some d

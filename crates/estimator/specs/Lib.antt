@@ -1,0 +1,4 @@
+pub mod Family
+pub mod Marks
+pub mod Numbers
+pub mod Entry

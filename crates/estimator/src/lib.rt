@@ -1,0 +1,186 @@
+// A family of marks and candidates, as the picker sees it (document 02, order 5; the source's
+// `Estimator`): what each family gives, and the tests of a list of marks, which all of them share.
+#![tactic(auto)]
+
+ghost use Rattle.std.specs.Prelude.{◌≡◌, ℕ, List, ◌≤◌, ◌/◌, eqb, length, Float};
+ghost use Rattle.std.specs.Float.{binary64};
+ghost use Rattle.std.specs.Float.Ieee.{to_bits};
+ghost use Rattle.rule.specs.Answer.{refusal_in, told};
+ghost use Rattle.rule.specs.Lists.{every};
+ghost use Rattle.rule.specs.Order.{first_failed};
+ghost use Rattle.numbers.specs.Finite.{all_finite};
+ghost use Rattle.estimator.specs.Entry.{measured, distance_answer};
+ghost use Rattle.numbers.specs.Constants.{farthest};
+ghost use Rattle.numbers.specs.Finite.{within};
+ghost use Rattle.estimator.specs.Family.{Family, mark_at, measure_of, squared_distance_of};
+ghost use Rattle.estimator.specs.Marks.{all_within, shape_tests, marks_tests};
+ghost use Rattle.estimator.specs.Numbers.{doubles_formed, model_read};
+
+use rule::Refusal;
+
+// What marks are measured by: a camera, or for sheets a value that says nothing.
+pub trait Estimator: Copy {
+    // A mark. In the terms of the field, a datum.
+    type Datum: Copy;
+
+    // A candidate.
+    type Model: Copy;
+
+    // Numbers a mark.
+    const WIDTH: usize;
+
+    ghost WIDTH: { ℕ };
+
+    // The fewest marks of a run.
+    const MIN_SAMPLES: usize;
+
+    ghost MIN_SAMPLES: { ℕ };
+
+    // Numbers a candidate.
+    const SIZE: usize;
+
+    ghost SIZE: { ℕ };
+
+    ghost family: { Family Self Self.Model Self.Datum };
+
+    // The mark at place `i`; all zeros where there is none.
+    fn mark_at(marks: &[f64], i: usize) -> Self::Datum
+        ensures { result ≡ mark_at family marks.now i };
+
+    // The square of the distance of a mark, for any numbers: none where the mark is beyond.
+    fn squared_distance(self, h: Self::Model, m: Self::Datum, ratio: f64) -> Option<f64>
+        ensures { result ≡ squared_distance_of family self ratio h m };
+
+    // The candidate at the front of some bytes, none where its numbers may not stand there.
+    fn read_model(mark: bool, bytes: &[u8]) -> Option<Self::Model>
+        ensures { result ≡ model_read family mark bytes.now };
+
+    // What an opening asks of it.
+    fn validate(self) -> Result<(), Refusal>
+        ensures { refusal_in result ≡ first_failed (family.tests self) };
+
+    // Whether every number of a candidate is finite.
+    fn model_finite(h: Self::Model) -> bool
+        ensures { result ≡ all_finite (family.model_numbers h) };
+
+    // Whether every number of a mark is in range.
+    fn mark_in_range(m: Self::Datum) -> bool
+        ensures { result ≡ all_within farthest (family.mark_numbers m) };
+
+    ghost width_is: { family.width ≡ WIDTH };
+
+    ghost least_is: { family.least ≡ MIN_SAMPLES };
+
+    ghost size_is: { family.size ≡ SIZE };
+
+    ghost wide: { 4 ≤ WIDTH };
+
+    ghost small: { SIZE ≤ 1000 };
+
+    ghost counts: { (l : List Float) → length (family.marks_of l) ≡ length l / WIDTH };
+}
+
+// How many marks: those that the list has in full.
+pub fn mark_count<E: Estimator>(marks: &[f64]) -> usize
+    ensures { result ≡ length (E.family.marks_of marks.now) }
+{
+    marks.len() / E::WIDTH
+}
+
+// The test of a list's shape, 8,000 numbers at most: refused with 5.
+#[tactic(auto, unfolding(rule::specs::Order::first_failed, crate::specs::Marks::shape_tests, crate::specs::Marks::shape))]
+pub fn check_shape<E: Estimator>(marks: &[f64]) -> Result<(), Refusal>
+    ensures { refusal_in result ≡ first_failed (shape_tests E.family marks.now) }
+{
+    if marks.len() % E::WIDTH != 0 {
+        return Err(Refusal::Shape);
+    }
+    if 8000 < marks.len() {
+        return Err(Refusal::Shape);
+    }
+    Ok(())
+}
+
+// Finite, and of magnitude at most 1e9: by two comparisons, since every mark is tested.
+#[tactic(auto, using(crate::proofs::Range::in_range, crate::proofs::Range::out_of_range))]
+fn in_range(x: f64) -> bool
+    ensures { result ≡ within farthest x }
+{
+    (-1e9 <= x) & (x <= 1e9)
+}
+
+// Whether every number is in range. All are looked at: where nearly every list passes, a jump for each
+// number is what takes the time.
+#[tactic(auto, unfolding(crate::specs::Marks::all_within), using(std::proofs::lemmas::List::Folds::list_all_more))]
+pub fn all_in_range(numbers: &[f64]) -> bool
+    ensures { result ≡ all_within farthest numbers.now }
+{
+    let mut all = true;
+    for x in numbers {
+        all &= in_range(*x);
+    }
+    all
+}
+
+// The tests of a list of marks, in order: refused with 5 or 6.
+#[tactic(auto, unfolding(rule::specs::Order::first_failed, crate::specs::Marks::marks_tests, crate::specs::Marks::shape_tests, crate::specs::Marks::shape, crate::specs::Marks::point))]
+pub fn check_marks<E: Estimator>(marks: &[f64]) -> Result<(), Refusal>
+    ensures { refusal_in result ≡ first_failed (marks_tests E.family marks.now) }
+{
+    check_shape::<E>(marks)?;
+    if !all_in_range(marks) {
+        return Err(Refusal::Point);
+    }
+    Ok(())
+}
+
+fn zero_bits(numbers: &[f64]) -> bool
+    ensures { result ≡ every (λ x. eqb (to_bits binary64 x) 0) numbers.now }
+{
+    numbers.iter().all(|x| fields::bits_of(*x) == 0)
+}
+
+// Whether numbers may stand in a record: finite where they are marked, else zero bits.
+#[tactic(auto, unfolding(crate::specs::Numbers::doubles_formed))]
+pub fn numbers_formed(mark: bool, numbers: &[f64]) -> bool
+    ensures { result ≡ doubles_formed mark numbers.now }
+{
+    if mark {
+        numbers::ensure_finite(numbers)
+    } else {
+        zero_bits(numbers)
+    }
+}
+
+// The distance for any numbers, none where the mark is beyond. It refuses nothing.
+#[tactic(auto, unfolding(crate::specs::Family::measure_of, crate::specs::Family::squared_distance_of))]
+pub fn residual<E: Estimator>(e: E, h: E::Model, m: E::Datum, ratio: f64) -> Option<f64>
+    ensures { measured result ≡ measure_of E.family e ratio h m }
+{
+    e.squared_distance(h, m, ratio).map(root::sqrt)
+}
+
+// The distance of a mark under a candidate by a row ratio, none where the mark is beyond; refused with 1
+// where a number of the candidate is not finite, then with 6 where one of the mark is out of range, then
+// with 16 where the ratio is not from 0.01 to 100, then by what the family asks.
+#[tactic(auto, unfolding(rule::specs::Order::first_failed, rule::specs::Order::decided, crate::specs::Entry::distance_answer, crate::specs::Entry::distance_tests, crate::specs::Entry::model, crate::specs::Marks::point, numbers::specs::Ratio::ratio))]
+pub fn distance<E: Estimator>(
+    e: E,
+    h: E::Model,
+    m: E::Datum,
+    ratio: f64,
+) -> Result<Option<f64>, Refusal>
+    ensures { told measured result ≡ distance_answer E.family e ratio h m }
+{
+    if !E::model_finite(h) {
+        return Err(Refusal::Record);
+    }
+    if !E::mark_in_range(m) {
+        return Err(Refusal::Point);
+    }
+    if !numbers::ratio_accepted(ratio) {
+        return Err(Refusal::Ratio);
+    }
+    e.validate()?;
+    Ok(residual(e, h, m, ratio))
+}

@@ -1,0 +1,87 @@
+// Sheets as a family, and the distance of a mark under a candidate (document 01, 'Distance') by the row
+// ratio (document 02, order 3), or that the mark is beyond (order 2).
+ghost use Rattle.std.specs.Prelude.{◌≡◌, refl};
+ghost use Rattle.rule.specs.Answer.{told};
+ghost use Rattle.estimator.specs.Entry.{measured, distance_answer};
+ghost use Rattle.sheet.specs.Sheets.{sheet, no_camera};
+ghost use Rattle.sheet.specs.Owed.{wide, small, counts};
+
+use crate::marks::{Mark, Side, mark_at, point_of};
+use crate::model::{Model, Sheet, project, squared_residual};
+use estimator::Estimator;
+use rule::Refusal;
+use std::array;
+
+impl Estimator for Sheet {
+    type Datum = Mark;
+
+    type Model = Model;
+
+    const WIDTH: usize = 4;
+
+    ghost WIDTH = { 4 };
+
+    const MIN_SAMPLES: usize = 4;
+
+    ghost MIN_SAMPLES = { 4 };
+
+    const SIZE: usize = 9;
+
+    ghost SIZE = { 9 };
+
+    ghost family = { sheet };
+
+    #[tactic(auto, unfolding(estimator::specs::Family::mark_at, crate::specs::Marks::mark_at))]
+    fn mark_at(marks: &[f64], i: usize) -> Mark {
+        mark_at(marks, i)
+    }
+
+    // It is worked out either way, so that the compiler may make it a choice of two numbers and no jump.
+    #[tactic(auto, unfolding(estimator::specs::Family::squared_distance_of, crate::specs::Distance::beyond_under, crate::specs::Distance::square_under))]
+    fn squared_distance(self, h: Model, m: Mark, ratio: f64) -> Option<f64> {
+        let to = project(h, point_of(m, Side::Sheet));
+        let square = squared_residual(to.at, point_of(m, Side::Pixel), ratio);
+        (to.s > 0.0).then_some(square)
+    }
+
+    #[tactic(auto, unfolding(estimator::specs::Numbers::model_read, estimator::specs::Numbers::numbers_at))]
+    fn read_model(mark: bool, bytes: &[u8]) -> Option<Model> {
+        let numbers: [f64; 9] = array::from_fn(|k| fields::double_at(bytes, k));
+        estimator::numbers_formed(mark, &numbers).then_some(Model::from(numbers))
+    }
+
+    // A sheet asks nothing.
+    #[tactic(auto, unfolding(rule::specs::Order::first_failed))]
+    fn validate(self) -> Result<(), Refusal> {
+        Ok(())
+    }
+
+    fn model_finite(h: Model) -> bool {
+        numbers::ensure_finite(&h.numbers())
+    }
+
+    fn mark_in_range(m: Mark) -> bool {
+        estimator::all_in_range(&m.numbers())
+    }
+
+    ghost width_is = { refl };
+
+    ghost least_is = { refl };
+
+    ghost size_is = { refl };
+
+    ghost wide = { wide };
+
+    ghost small = { small };
+
+    ghost counts = { counts };
+}
+
+// The distance of a mark under a candidate by a row ratio, none where the mark is beyond; refused with 1
+// where a number of the candidate is not finite, then with 6 where one of the mark is out of range, then
+// with 16 where the ratio is not from 0.01 to 100.
+pub fn distance(h: Model, m: Mark, ratio: f64) -> Result<Option<f64>, Refusal>
+    ensures { told measured result ≡ distance_answer sheet no_camera ratio h m }
+{
+    estimator::distance(Sheet, h, m, ratio)
+}
