@@ -1,6 +1,7 @@
 -- A family of marks and candidates: what the picker has to be told of it, and the distances of a list of marks by it (document 01, 'Distance' and 'Trials', and
 -- document 02, orders 2, 3 and 5). Nothing else of the picker knows a mark, a candidate or a distance.
 use Rattle.std.specs.Prelude.{Bool, cond, List, map, ℕ, length, get_or, Option, Some, None, Float}
+use Rattle.std.specs.Float.Ieee.{le}
 use Rattle.rule.specs.Lists.{count_of}
 use Rattle.rule.specs.Order.{Test}
 use Rattle.root.specs.Root.{root_of}
@@ -38,6 +39,10 @@ module _ {E M K : Type 0} (f : Family E M K) where
   -- 01's distance: infinite where the mark is beyond
   unfoldable pub distance_of : E → (ratio : Float) → M → K → Float
   distance_of e ratio h m = as_distance (measure_of e ratio h m)
+
+  -- The mark lies within the threshold under the candidate: in the terms of the field, it is an inlier. A NaN is not within it.
+  unfoldable pub inlier : E → (ratio : Float) → M → (thresh : Float) → K → Bool
+  inlier e ratio h thresh m = le (distance_of e ratio h m) thresh
 
   -- the square that the distance is the root of
   unfoldable pub squared_of : E → (ratio : Float) → M → K → Float
