@@ -8,7 +8,9 @@ use Rattle.rule.specs.Lists.{every}
 use Rattle.root.specs.Root.{root_of}
 use Rattle.numbers.specs.Constants.{same_point, on_line}
 use Rattle.numbers.specs.Finite.{abs_of}
-use Rattle.sheet.specs.Marks.{points, squared_apart, marks_tests}
+use Rattle.estimator.specs.Marks.{marks_tests}
+use Rattle.sheet.specs.Marks.{points, squared_apart}
+use Rattle.sheet.specs.Sheets.{sheet}
 use Rattle.sheet.specs.declared.marks.Point.{Point}
 use Rattle.sheet.specs.declared.marks.Side.{Side}
 
@@ -36,4 +38,4 @@ collinear (p0 ∷ later) = cond (ltb (length (p0 ∷ later)) 3) false (straight 
 -- ---- the entry
 
 unfoldable pub collinear_answer : List Float → Side → Answer Bool
-collinear_answer l side = decided (first_failed (marks_tests l)) (collinear (points side l))
+collinear_answer l side = decided (first_failed (marks_tests sheet l)) (collinear (points side l))

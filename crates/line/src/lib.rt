@@ -8,7 +8,7 @@ ghost use Rattle.sheet.specs.Marks.{points as points_of};
 ghost use Rattle.line.specs.Collinear.{apart, cross_of, on_baseline, collinear, collinear_answer};
 
 use rule::Refusal;
-use sheet::{Point, Points};
+use sheet::{Point, Points, Sheet};
 
 // Whether `p` is more than 1e-9 from `p0`. The first two tests spare the root, which no double's
 // square distance asks for: their limits are neighbours, and the root of the lower one is 1e-9.
@@ -60,10 +60,10 @@ pub fn on_one_line(points: Points) -> bool
 }
 
 // Whether the points of a side are collinear; refused with 5 or 6, in this order.
-#[tactic(auto, unfolding(rule::specs::Order::first_failed, rule::specs::Order::decided, crate::specs::Collinear::collinear_answer, sheet::specs::Marks::marks_tests, sheet::specs::Marks::shape, sheet::specs::Marks::point))]
+#[tactic(auto, unfolding(rule::specs::Order::first_failed, rule::specs::Order::decided, crate::specs::Collinear::collinear_answer, estimator::specs::Marks::marks_tests, estimator::specs::Marks::shape, estimator::specs::Marks::point))]
 pub fn points_are_collinear(points: Points) -> Result<bool, Refusal>
     ensures { answered result ≡ collinear_answer points.entry.marks.now points.entry.side }
 {
-    sheet::check_marks(points.marks)?;
+    estimator::check_marks::<Sheet>(points.marks)?;
     Ok(on_one_line(points))
 }
