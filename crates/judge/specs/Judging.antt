@@ -1,17 +1,17 @@
--- Document 01, 'Trials': a call of a sheet's run (a record, marks, stops), its tests but for 10, and what it comes to by itself, before the book is looked at.
-use Rattle.std.specs.Prelude.{not, cond, List, [], ◌∷◌, ◌++◌, map, ℕ, suc, eqb, ltb, length, Float, Result, Ok, Err}
-use Rattle.rule.specs.Refusal.{SHAPE, STOPS, number_of}
+-- Document 01, 'Trials': a call of a run (a record, marks, stops), its tests but for 10, and what it comes to by itself, before the book is looked at. For any
+-- family, by E's value.
+use Rattle.std.specs.Prelude.{cond, List, [], ◌∷◌, ◌++◌, map, ℕ, ltb, Float, Result, Ok, Err}
+use Rattle.rule.specs.Refusal.{number_of}
 use Rattle.rule.specs.declared.Refusal.{Refusal}
 use Rattle.rule.specs.Lists.{filled}
 use Rattle.rule.specs.Order.{Test, first_failed, if_passed}
 use Rattle.root.specs.Root.{root_of}
-use Rattle.sheet.specs.Marks.{marks_of, shape, few, marks_tests}
-use Rattle.sheet.specs.declared.model.Model.{Model}
+use Rattle.estimator.specs.Family.{Family, distances_of, beyond_of, squares_of}
+use Rattle.estimator.specs.Marks.{shape, few, of_run, entries, marks_tests}
 use Rattle.book.specs.Score as Score
 use Rattle.book.specs.Score.{Options, Judged, turned_down, Judgement, beyond_fit, Trial, unfitted, fitted, refitted, squares_in, rms_of, rms_in, count_under, stands_of, judge_trial}
 use Rattle.records.specs.Trial.{trial_record, trial_of}
 use Rattle.records.specs.declared.options.RansacOptions.{RansacOptions}
-use Rattle.measure.specs.Distances.{distances_of, beyond_of, squares_of}
 use Rattle.judge.specs.declared.Call.{Call as CodeCall}
 use Rattle.judge.specs.declared.Judgement.{Judgement as CodeJudgement}
 use Rattle.judge.specs.declared.Standing.{Standing}
@@ -32,62 +32,75 @@ pub record Call : Type 0 where
 abbrev pub call_of : CodeCall → Call
 call_of c = record { bytes = c.bytes.now; marks = c.marks.now; stops = c.stops.now }
 
--- ---- the tests
+module _ {E M K : Type 0} (f : Family E M K) where
+  -- ---- the tests
 
--- 5: n not the run's
-unfoldable pub of_run : ℕ → List Float → Test
-of_run n l = record { fails = not (eqb (length (marks_of l)) n); number = SHAPE }
+  -- 5 to 8, 1
+  unfoldable pub call_tests : ℕ → Call → List Test
+  call_tests n c = of_run f n c.marks ∷ (marks_tests f c.marks ++ (few f c.marks ∷ entries f c.marks c.stops ∷ trial_record f.size c.bytes ∷ []))
 
--- 8: not n + 1 entries
-unfoldable pub entries : List Float → List ℕ → Test
-entries l stops = record { fails = not (eqb (length stops) (suc (length (marks_of l)))); number = STOPS }
+  -- The same but for 6, the one test that walks over the marks: for marks that were tested before.
+  unfoldable pub tested_marks : ℕ → List Float → List ℕ → List Test
+  tested_marks n l stops = of_run f n l ∷ shape f l ∷ few f l ∷ entries f l stops ∷ []
 
--- 5 to 8, 1
-unfoldable pub call_tests : ℕ → Call → List Test
-call_tests n c = of_run n c.marks ∷ (marks_tests c.marks ++ (few c.marks ∷ entries c.marks c.stops ∷ trial_record c.bytes ∷ []))
+  unfoldable pub tested_tests : ℕ → Call → List Test
+  tested_tests n c = tested_marks n c.marks c.stops ++ (trial_record f.size c.bytes ∷ [])
 
--- The same but for 6, the one test that walks over the marks: for marks that were tested before.
-unfoldable pub tested_marks : ℕ → List Float → List ℕ → List Test
-tested_marks n l stops = of_run n l ∷ shape l ∷ few l ∷ entries l stops ∷ []
+  module _ (e : E) where
+    -- ---- the judging
 
-unfoldable pub tested_tests : ℕ → Call → List Test
-tested_tests n c = tested_marks n c.marks c.stops ++ (trial_record c.bytes ∷ [])
+    -- what the record is worth over the call's marks and stops
+    unfoldable pub worth : RansacOptions → Call → Judged M
+    worth o c = judge_trial (rule_of o) (distances_of f e o.ratio c.marks) c.stops (trial_of f c.bytes)
 
--- ---- the judging
+    unfoldable pub judged_by : List Test → RansacOptions → Call → Judged M
+    judged_by tests o c = if_passed (first_failed tests) (worth o c) (turned_down (first_failed tests))
 
--- what the record is worth over the call's marks and stops
-unfoldable pub worth : RansacOptions → Call → Judged Model
-worth o c = judge_trial (rule_of o) (distances_of o.ratio c.marks) c.stops (trial_of c.bytes)
+    unfoldable pub judge_of : RansacOptions → ℕ → Call → Judged M
+    judge_of o n c = judged_by (call_tests n c) o c
 
-unfoldable pub judged_by : List Test → RansacOptions → Call → Judged Model
-judged_by tests o c = if_passed (first_failed tests) (worth o c) (turned_down (first_failed tests))
+    unfoldable pub judge_tested : RansacOptions → ℕ → Call → Judged M
+    judge_tested o n c = judged_by (tested_tests n c) o c
 
-unfoldable pub judge_of : RansacOptions → ℕ → Call → Judged Model
-judge_of o n c = judged_by (call_tests n c) o c
+    -- how many marks are beyond under the record's fit, where the tests pass
+    unfoldable pub beyond_by : List Test → Call → ℕ
+    beyond_by tests c = if_passed (first_failed tests) (beyond_fit (beyond_of f e c.marks) (trial_of f c.bytes)) 0
 
-unfoldable pub judge_tested : RansacOptions → ℕ → Call → Judged Model
-judge_tested o n c = judged_by (tested_tests n c) o c
+    abbrev pub judgement_of : RansacOptions → ℕ → Call → Judgement M
+    judgement_of o n c = record { worth = judge_of o n c; beyond = beyond_by (call_tests n c) c }
 
--- how many marks are beyond under the record's fit, where the tests pass
-unfoldable pub beyond_by : List Test → Call → ℕ
-beyond_by tests c = if_passed (first_failed tests) (beyond_fit (beyond_of c.marks) (trial_of c.bytes)) 0
+    abbrev pub judgement_tested : RansacOptions → ℕ → Call → Judgement M
+    judgement_tested o n c = record { worth = judge_tested o n c; beyond = beyond_by (tested_tests n c) c }
 
-abbrev pub judgement_of : RansacOptions → ℕ → Call → Judgement Model
-judgement_of o n c = record { worth = judge_of o n c; beyond = beyond_by (call_tests n c) c }
+    -- ---- the judging without the root mean square
 
-abbrev pub judgement_tested : RansacOptions → ℕ → Call → Judgement Model
-judgement_tested o n c = record { worth = judge_tested o n c; beyond = beyond_by (tested_tests n c) c }
+    -- that of the marks under a candidate
+    unfoldable pub rms_under : RansacOptions → List Float → M → Float
+    rms_under o l m = rms_in o.thresh (distances_of f e o.ratio l m)
+
+    -- The lent list then has the squares of the model that stands at its front, or of the fit where that has too few marks.
+    unfoldable pub squares_after : RansacOptions → (marks : List Float) → (stops : List ℕ) → Trial M → List Float → List Float
+    squares_after o l stops unfitted entry = entry
+    squares_after o l stops (fitted fit) entry = filled (squares_of f e o.ratio l fit) entry
+    squares_after o l stops (refitted fit refit) entry =
+        let few = ltb (count_under (rule_of o) (distances_of f e o.ratio l) stops fit) o.min_inliers in
+        let stands = stands_of (rule_of o) (distances_of f e o.ratio l) stops fit refit in
+        filled (squares_of f e o.ratio l (cond few fit stands)) entry
+
+    -- a refused call leaves it
+    unfoldable pub squares_left : RansacOptions → ℕ → Call → List Float → List Float
+    squares_left o n c entry = if_passed (first_failed (tested_tests n c)) (squares_after o c.marks c.stops (trial_of f c.bytes) entry) entry
 
 -- ---- what the code answers
 
 -- what a verdict stands for, by what a scored one has
-abbrev pub judged_as : {S : Type 0} → (S → Score.Standing Model) → Verdict S → Judged Model
+abbrev pub judged_as : {S M : Type 0} → (S → Score.Standing M) → Verdict S → Judged M
 judged_as view Empty = Judged.empty
 judged_as view (Few count) = Judged.few count
 judged_as view (Scored s) = Judged.scored (view s)
 
 -- and an answer
-abbrev pub answer_as : {S : Type 0} → (S → Score.Standing Model) → Result (CodeJudgement S) Refusal → Judged Model
+abbrev pub answer_as : {S M : Type 0} → (S → Score.Standing M) → Result (CodeJudgement S) Refusal → Judged M
 answer_as view (Ok j) = judged_as view j.verdict
 answer_as view (Err e) = turned_down (number_of e)
 
@@ -97,41 +110,22 @@ beyond_in (Ok j) = j.beyond
 beyond_in (Err e) = 0
 
 -- what a support stands for, with a root mean square
-abbrev pub with_rms : Float → Support → Score.Standing Model
+abbrev pub with_rms : {M : Type 0} → Float → Support M → Score.Standing M
 with_rms rms s = record { model = s.model; count = s.count; rms = rms; stop = s.stop }
 
-unfoldable pub standing_of : Standing → Score.Standing Model
+unfoldable pub standing_of : {M : Type 0} → Standing M → Score.Standing M
 standing_of s = with_rms s.rms s.support
 
-abbrev pub view_verdict : Result (CodeJudgement Standing) Refusal → Judged Model
+abbrev pub view_verdict : {M : Type 0} → Result (CodeJudgement (Standing M)) Refusal → Judged M
 view_verdict r = answer_as standing_of r
 
--- ---- the judging without the root mean square
-
--- that of the marks under a model
-unfoldable pub rms_under : RansacOptions → List Float → Model → Float
-rms_under o l m = rms_in o.thresh (distances_of o.ratio l m)
-
 -- A support leaves the root mean square out: it is that of the model that stands.
-abbrev pub supported : (Model → Float) → Support → Score.Standing Model
+abbrev pub supported : {M : Type 0} → (M → Float) → Support M → Score.Standing M
 supported rms s = with_rms (rms s.model) s
 
-abbrev pub view_finding : (Model → Float) → Result (CodeJudgement Support) Refusal → Judged Model
+abbrev pub view_finding : {M : Type 0} → (M → Float) → Result (CodeJudgement (Support M)) Refusal → Judged M
 view_finding rms r = answer_as (supported rms) r
 
 -- Where the distances' squares are known it can be worked out.
-unfoldable pub support_with : Float → (squares : List Float) → Support → Score.Standing Model
+unfoldable pub support_with : {M : Type 0} → Float → (squares : List Float) → Support M → Score.Standing M
 support_with thresh squares s = with_rms (rms_of s.count (squares_in thresh (map root_of squares))) s
-
--- The lent list then has the squares of the model that stands at its front, or of the fit where that has too few marks.
-unfoldable pub squares_after : RansacOptions → (marks : List Float) → (stops : List ℕ) → Trial Model → List Float → List Float
-squares_after o l stops unfitted entry = entry
-squares_after o l stops (fitted fit) entry = filled (squares_of o.ratio l fit) entry
-squares_after o l stops (refitted fit refit) entry =
-    let few = ltb (count_under (rule_of o) (distances_of o.ratio l) stops fit) o.min_inliers in
-    let stands = stands_of (rule_of o) (distances_of o.ratio l) stops fit refit in
-    filled (squares_of o.ratio l (cond few fit stands)) entry
-
--- a refused call leaves it
-unfoldable pub squares_left : RansacOptions → ℕ → Call → List Float → List Float
-squares_left o n c entry = if_passed (first_failed (tested_tests n c)) (squares_after o c.marks c.stops (trial_of c.bytes) entry) entry

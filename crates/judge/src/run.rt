@@ -3,17 +3,18 @@ ghost use Rattle.std.specs.Prelude.{◌≡◌, ◌≤◌, Option, length};
 ghost use Rattle.rule.specs.Lists.{filled};
 ghost use Rattle.book.specs.Score.{count_under, stop_at, judge_trial, beyond_fit};
 ghost use Rattle.records.specs.Trial.{refitted_by, view_recorded};
-ghost use Rattle.measure.specs.Distances.{distances_of, beyond_of, squares_of};
+ghost use Rattle.estimator.specs.Family.{distances_of, beyond_of, squares_of};
 ghost use Rattle.judge.specs.Judging.{rule_of, rms_under, supported, judged_as, squares_after};
 
 use crate::{Judgement, Support, Verdict};
+use estimator::Estimator;
 use records::{Fitted, RansacOptions};
-use sheet::Model;
 
 // The options, and marks and stop entries that have passed a call's tests: few enough marks for a list of
 // squares.
 #[derive(Clone, Copy)]
-pub(crate) struct Run<'a> {
+pub(crate) struct Run<'a, E> {
+    pub estimator: E,
     pub options: RansacOptions,
     pub marks: &'a [f64],
     pub stops: &'a [u32],
@@ -27,11 +28,11 @@ struct Counted {
     beyond: u32,
 }
 
-impl<'a> Run<'a> {
+impl<'a, E: Estimator> Run<'a, E> {
     // max_iters at count 0, else the entry of the count.
     #[tactic(auto, unfolding(book::specs::Score::stop_at, crate::specs::Judging::rule_of))]
     fn stop_at(self, count: u32) -> u32
-        ensures { result ≡ stop_at (rule_of self.entry.options) (distances_of self.entry.options.ratio self.entry.marks.now) self.entry.stops.now count }
+        ensures { result ≡ stop_at (rule_of self.entry.options) (distances_of E.family self.entry.estimator self.entry.options.ratio self.entry.marks.now) self.entry.stops.now count }
     {
         if count == 0 {
             return self.options.max_iters;
@@ -40,8 +41,8 @@ impl<'a> Run<'a> {
     }
 
     // A model and its count.
-    fn support(self, model: Model, count: u32) -> Support
-        ensures { result ≡ record { model = model; count = count; stop = stop_at (rule_of self.entry.options) (distances_of self.entry.options.ratio self.entry.marks.now) self.entry.stops.now count } }
+    fn support(self, model: E::Model, count: u32) -> Support<E::Model>
+        ensures { result ≡ record { model = model; count = count; stop = stop_at (rule_of self.entry.options) (distances_of E.family self.entry.estimator self.entry.options.ratio self.entry.marks.now) self.entry.stops.now count } }
     {
         Support {
             model,
@@ -52,14 +53,14 @@ impl<'a> Run<'a> {
 
     // Measures a model, and counts the marks that are within the threshold under it and those beyond.
     #[tactic(auto, using(crate::proofs::Measured::counts), unfolding(book::specs::Score::count_under, crate::specs::Judging::rule_of))]
-    fn count_under(self, h: Model, squares: &mut [f64; 2000]) -> Counted
-        ensures within_value { result.within ≡ count_under (rule_of self.entry.options) (distances_of self.entry.options.ratio self.entry.marks.now) self.entry.stops.now h }
-        ensures beyond_value { result.beyond ≡ beyond_of self.entry.marks.now h }
-        ensures squares_after { squares.new ≡ filled (squares_of self.entry.options.ratio self.entry.marks.now h) squares.old }
+    fn count_under(self, h: E::Model, squares: &mut [f64; 2000]) -> Counted
+        ensures within_value { result.within ≡ count_under (rule_of self.entry.options) (distances_of E.family self.entry.estimator self.entry.options.ratio self.entry.marks.now) self.entry.stops.now h }
+        ensures beyond_value { result.beyond ≡ beyond_of E.family self.entry.estimator self.entry.marks.now h }
+        ensures squares_after { squares.new ≡ filled (squares_of E.family self.entry.estimator self.entry.options.ratio self.entry.marks.now h) squares.old }
     {
         let o = self.options;
-        let beyond = measure::squared_residuals(h, o.ratio, self.marks, squares);
-        let n = sheet::mark_count(self.marks);
+        let beyond = measure::squared_residuals(self.estimator, h, o.ratio, self.marks, squares);
+        let n = estimator::mark_count::<E>(self.marks);
         let within = score::count_inliers(o.thresh, &squares[..n]);
         Counted {
             within: within as u32,
@@ -69,10 +70,10 @@ impl<'a> Run<'a> {
 
     // Judges a trial but for the root mean square.
     #[tactic(auto, unfolding(book::specs::Score::judge_trial, book::specs::Score::beyond_fit, crate::specs::Judging::squares_after))]
-    pub fn judge_trial(self, trial: Option<Fitted>, squares: &mut [f64; 2000]) -> Judgement<Support>
-        ensures verdict_value { judged_as (supported (rms_under self.entry.options self.entry.marks.now)) result.verdict ≡ judge_trial (rule_of self.entry.options) (distances_of self.entry.options.ratio self.entry.marks.now) self.entry.stops.now (view_recorded trial) }
-        ensures beyond_value { result.beyond ≡ beyond_fit (beyond_of self.entry.marks.now) (view_recorded trial) }
-        ensures squares_after { squares.new ≡ squares_after self.entry.options self.entry.marks.now self.entry.stops.now (view_recorded trial) squares.old }
+    pub fn judge_trial(self, trial: Option<Fitted<E::Model>>, squares: &mut [f64; 2000]) -> Judgement<Support<E::Model>>
+        ensures verdict_value { judged_as (supported (rms_under E.family self.entry.estimator self.entry.options self.entry.marks.now)) result.verdict ≡ judge_trial (rule_of self.entry.options) (distances_of E.family self.entry.estimator self.entry.options.ratio self.entry.marks.now) self.entry.stops.now (view_recorded trial) }
+        ensures beyond_value { result.beyond ≡ beyond_fit (beyond_of E.family self.entry.estimator self.entry.marks.now) (view_recorded trial) }
+        ensures squares_after { squares.new ≡ squares_after E.family self.entry.estimator self.entry.options self.entry.marks.now self.entry.stops.now (view_recorded trial) squares.old }
     {
         match trial {
             None => Judgement {
@@ -90,13 +91,13 @@ impl<'a> Run<'a> {
     #[tactic(auto, using(crate::proofs::Measured::measured_twice), unfolding(book::specs::Score::judge_trial, book::specs::Score::judged_by, book::specs::Score::stands_of, book::specs::Score::standing, book::specs::Score::count_under, book::specs::Score::beyond_fit, crate::specs::Judging::rule_of, crate::specs::Judging::rms_under, crate::specs::Judging::squares_after))]
     fn judge_fit(
         self,
-        fit: Model,
-        refit: Option<Model>,
+        fit: E::Model,
+        refit: Option<E::Model>,
         squares: &mut [f64; 2000],
-    ) -> Judgement<Support>
-        ensures verdict_value { judged_as (supported (rms_under self.entry.options self.entry.marks.now)) result.verdict ≡ judge_trial (rule_of self.entry.options) (distances_of self.entry.options.ratio self.entry.marks.now) self.entry.stops.now (refitted_by fit refit) }
-        ensures beyond_value { result.beyond ≡ beyond_fit (beyond_of self.entry.marks.now) (refitted_by fit refit) }
-        ensures squares_after { squares.new ≡ squares_after self.entry.options self.entry.marks.now self.entry.stops.now (refitted_by fit refit) squares.old }
+    ) -> Judgement<Support<E::Model>>
+        ensures verdict_value { judged_as (supported (rms_under E.family self.entry.estimator self.entry.options self.entry.marks.now)) result.verdict ≡ judge_trial (rule_of self.entry.options) (distances_of E.family self.entry.estimator self.entry.options.ratio self.entry.marks.now) self.entry.stops.now (refitted_by fit refit) }
+        ensures beyond_value { result.beyond ≡ beyond_fit (beyond_of E.family self.entry.estimator self.entry.marks.now) (refitted_by fit refit) }
+        ensures squares_after { squares.new ≡ squares_after E.family self.entry.estimator self.entry.options self.entry.marks.now self.entry.stops.now (refitted_by fit refit) squares.old }
     {
         let least = self.options.min_inliers;
         let first = self.count_under(fit, squares);
@@ -119,7 +120,7 @@ impl<'a> Run<'a> {
         }
         let again = self.count_under(refit, squares);
         if again.within < least {
-            measure::squared_residuals(fit, self.options.ratio, self.marks, squares);
+            measure::squared_residuals(self.estimator, fit, self.options.ratio, self.marks, squares);
             return fit_stands;
         }
         Judgement {
