@@ -1,0 +1,4 @@
+pub mod Marks
+pub mod Distance
+pub mod Forms
+pub mod Owed
