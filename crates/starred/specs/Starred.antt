@@ -12,7 +12,9 @@ use Rattle.numbers.specs.Constants.{infinity}
 use Rattle.book.specs.Score.{Options, Trial, fitted, refitted, count_in, Judged, few, scored, Judgement, beyond_fit, judge_trial}
 use Rattle.book.specs.Book.{held, Answer, is_few, is_won, fresh, book_after, answers_of}
 use Rattle.numbers.specs.Measure.{beyond}
-use Rattle.sheet.specs.Distance.{measure_of, beyond_under, distance_of, inlier}
+use Rattle.estimator.specs.Family.{measure_of, distance_of, inlier}
+use Rattle.sheet.specs.Distance.{beyond_under}
+use Rattle.sheet.specs.Sheets.{sheet, no_camera}
 use Rattle.sheet.specs.declared.marks.Mark.{Mark}
 use Rattle.sheet.specs.declared.model.Model.{Model}
 
@@ -45,6 +47,13 @@ T = model (whole 3) (whole 1)
 abbrev pub behind : Model
 behind = model (whole 0) (neg (whole 1))
 
+-- the distances of the square's marks, with ratio 1, and how many marks are within the threshold
+abbrev distances : Model → List Float
+distances h = map (distance_of sheet no_camera (whole 1) h) square
+
+abbrev within : Model → (thresh : Float) → ℕ
+within h thresh = count_of (inlier sheet no_camera (whole 1) h thresh) square
+
 -- ---- trials on the square
 
 abbrev opts : Float → ℕ → Bool → Options
@@ -52,7 +61,7 @@ opts thresh least refits = record { thresh = thresh; most = 10; least = least; r
 
 -- what a trial comes to, with the stop list 9 9 9 9 3 9 of the worked run
 abbrev trial : Options → Trial Model → Judged Model
-trial o t = judge_trial o (λ h. map (distance_of (whole 1) h) square) (9 ∷ 9 ∷ 9 ∷ 9 ∷ 3 ∷ 9 ∷ []) t
+trial o t = judge_trial o distances (9 ∷ 9 ∷ 9 ∷ 9 ∷ 3 ∷ 9 ∷ []) t
 
 -- the same with the number beyond
 abbrev judgement : Options → Trial Model → Judgement Model
@@ -66,15 +75,15 @@ abbrev stands : Model → ℕ → Float → ℕ → Judged Model
 stands h count rms stop = scored (record { model = h; count = count; rms = rms; stop = stop })
 
 pub record Starred : Type 0 where
-  pub under_I : map (distance_of (whole 1) I) square ≡ whole 0 ∷ whole 0 ∷ whole 0 ∷ whole 0 ∷ whole 3 ∷ []
-  pub under_T : map (distance_of (whole 1) T) square ≡ whole 3 ∷ whole 3 ∷ whole 3 ∷ whole 3 ∷ whole 0 ∷ []
-  pub I_within_2 : count_of (inlier (whole 1) I (whole 2)) square ≡ 4
-  pub I_within_3 : count_of (inlier (whole 1) I (whole 3)) square ≡ 5
-  pub T_within_2 : count_of (inlier (whole 1) T (whole 2)) square ≡ 1
-  pub none_behind : count_of (inlier (whole 1) behind (whole 2)) square ≡ 0
+  pub under_I : distances I ≡ whole 0 ∷ whole 0 ∷ whole 0 ∷ whole 0 ∷ whole 3 ∷ []
+  pub under_T : distances T ≡ whole 3 ∷ whole 3 ∷ whole 3 ∷ whole 3 ∷ whole 0 ∷ []
+  pub I_within_2 : within I (whole 2) ≡ 4
+  pub I_within_3 : within I (whole 3) ≡ 5
+  pub T_within_2 : within T (whole 2) ≡ 1
+  pub none_behind : within behind (whole 2) ≡ 0
   -- I, thresh 2: 4 marks, rms 0. Thresh 3: 5 marks.
   pub I_scored : trial (opts (whole 2) 4 false) (fitted I) ≡ stands I 4 (whole 0) 3
-  pub I_scores_5 : count_in (whole 3) (map (distance_of (whole 1) I) square) ≡ 5
+  pub I_scores_5 : count_in (whole 3) (distances I) ≡ 5
   pub T_few : trial (opts (whole 2) 4 false) (fitted T) ≡ few 1
   -- fit I, refit T, thresh 2, refit on: min 4 keeps I; min 1 takes T, count 1
   pub refit_too_low : trial (opts (whole 2) 4 true) (refitted I T) ≡ stands I 4 (whole 0) 3
@@ -83,7 +92,7 @@ pub record Starred : Type 0 where
   pub behind_few : trial (opts (whole 2) 1 false) (fitted behind) ≡ few 0
   pub behind_scored : trial (opts (whole 2) 0 false) (fitted behind) ≡ stands behind 0 infinity 10
   -- the same, each mark beyond: the answer has 5 of them (document 02, order 2)
-  pub all_beyond : map (measure_of (whole 1) behind) square ≡ beyond ∷ beyond ∷ beyond ∷ beyond ∷ beyond ∷ []
+  pub all_beyond : map (measure_of sheet no_camera (whole 1) behind) square ≡ beyond ∷ beyond ∷ beyond ∷ beyond ∷ beyond ∷ []
   pub few_with_5 : answers (opts (whole 2) 1 false) (fitted behind) ≡ record { outcome = is_few 0; beyond = 5 } ∷ []
   pub won_with_5 : answers (opts (whole 2) 0 false) (fitted behind) ≡ record { outcome = is_won 0 infinity; beyond = 5 } ∷ []
   -- I twice, thresh 2, min 4: trial 1 wins
