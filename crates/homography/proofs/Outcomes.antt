@@ -9,11 +9,12 @@ use Rattle.rule.specs.Refusal.{number_of}
 use Rattle.rule.specs.Order.{first_failed}
 use Rattle.rule.proofs.Order.{one_failed, kept}
 use Rattle.rule.proofs.Views.{number_above_0}
-use Rattle.sheet.specs.Marks.{marks_tests}
+use Rattle.estimator.specs.Marks.{marks_tests}
+use Rattle.sheet.specs.Sheets.{sheet}
 use Rattle.homography.specs.Rows.{rows_tests, Rowing}
 
-pub by_marks : (l entry : List Float) (e : Refusal) → number_of e ≡ first_failed (marks_tests l) → Rowing l entry (Err e) entry
+pub by_marks : (l entry : List Float) (e : Refusal) → number_of e ≡ first_failed (marks_tests sheet l) → Rowing l entry (Err e) entry
 unfolding rows_tests
 by_marks l entry e h =
-    let f : number_of e ≡ first_failed (rows_tests l (length entry)) = h ∙ one_failed (marks_tests l) _ (λ z. number_above_0 e (h ∙ z)) in
+    let f : number_of e ≡ first_failed (rows_tests l (length entry)) = h ∙ one_failed (marks_tests sheet l) _ (λ z. number_above_0 e (h ∙ z)) in
     record { refusal = f; list = rw (← f) (kept (number_of e) _ _ (number_above_0 e)) }

@@ -11,7 +11,7 @@ ghost use Rattle.homography.specs.Rows.{row_at, u_row, v_row, rows_list, Rowing}
 use linalg::{Change, change_of};
 use line::on_one_line;
 use rule::Refusal;
-use sheet::{Point, Points, Side};
+use sheet::{Point, Points, Sheet, Side};
 
 // A row: −x, −y, −1 from place `at` on, 0 in the other three of the first six places, then w·x, w·y, w.
 #[tactic(auto, unfolding(crate::specs::Rows::row_at), using(crate::proofs::Writing::stored))]
@@ -48,7 +48,7 @@ fn write_rows(marks: &[f64], sheet: Change, pixel: Change, rows: &mut [f64])
     requires { 18 * length (marks_of marks.now) ≤ length rows.old }
     ensures { rows.new ≡ rows_list sheet pixel marks.now rows.old }
 {
-    for i in 0..sheet::mark_count(marks) {
+    for i in 0..estimator::mark_count::<Sheet>(marks) {
         let m = sheet::mark_at(marks, i);
         let p = linalg::normalize_point(sheet, sheet::point_of(m, Side::Sheet));
         let q = linalg::normalize_point(pixel, sheet::point_of(m, Side::Pixel));
@@ -58,12 +58,12 @@ fn write_rows(marks: &[f64], sheet: Change, pixel: Change, rows: &mut [f64])
 
 // The rows of all marks into the lent list, the rest of which stays. Refused with 5, 6, 7, 13, 14, 12 or
 // 9, in this order; the lent list then stays as it is.
-#[tactic(auto, unfolding(rule::specs::Order::first_failed, rule::specs::Order::if_passed, rule::specs::Order::room, linalg::specs::Normalize::change_of, sheet::specs::Marks::marks_tests, sheet::specs::Marks::shape, sheet::specs::Marks::point, sheet::specs::Marks::few, crate::specs::Rows::rows_tests, crate::specs::Rows::sheet_line, crate::specs::Rows::pixel_line, crate::specs::Rows::spreads), using(sheet::proofs::Places::count, crate::proofs::Outcomes::by_marks))]
+#[tactic(auto, unfolding(rule::specs::Order::first_failed, rule::specs::Order::if_passed, rule::specs::Order::room, linalg::specs::Normalize::change_of, estimator::specs::Marks::marks_tests, estimator::specs::Marks::shape, estimator::specs::Marks::point, estimator::specs::Marks::few, crate::specs::Rows::rows_tests, crate::specs::Rows::sheet_line, crate::specs::Rows::pixel_line, crate::specs::Rows::spreads), using(sheet::specs::Owed::counts, crate::proofs::Outcomes::by_marks))]
 pub fn dlt_rows(marks: &[f64], rows: &mut [f64]) -> Result<(), Refusal>
     ensures { Rowing marks.now rows.old result rows.new }
 {
-    sheet::check_marks(marks)?;
-    let n = sheet::mark_count(marks);
+    estimator::check_marks::<Sheet>(marks)?;
+    let n = estimator::mark_count::<Sheet>(marks);
     if n < 4 {
         return Err(Refusal::Few);
     }

@@ -8,12 +8,9 @@ use Rattle.rule.proofs.Lists.{Written, none, same, more}
 use Rattle.sheet.specs.Marks.{points, point_at}
 use Rattle.sheet.specs.declared.marks.Point.{Point}
 use Rattle.sheet.specs.declared.marks.Side.{Side}
-use Rattle.sheet.proofs.Places.{count, points_count, no_point, point-read}
+use Rattle.sheet.proofs.Places.{no_point, point-read}
 use Rattle.linalg.specs.Normalize.{normalized_by, pair_of, normalized_list}
 use Rattle.linalg.specs.declared.Change.{Change}
-
--- how many points there are, by the numbers of the list
-pub ruleset counts = (points_count, count)
 
 abbrev pair : Change → Point → List Float
 pair c p = pair_of (normalized_by c p)

@@ -10,9 +10,11 @@ use Rattle.rule.specs.Arith.{◌⊖◌, ◌⊗◌, ◌⊘◌}
 use Rattle.rule.specs.Lists.{sum_from, for_each}
 use Rattle.root.specs.Root.{root_of}
 use Rattle.numbers.specs.Constants.{zero', one, two, epsilon}
-use Rattle.sheet.specs.Marks.{points, squared_apart, marks_tests}
+use Rattle.estimator.specs.Marks.{marks_tests}
+use Rattle.sheet.specs.Marks.{points, squared_apart}
 use Rattle.sheet.specs.declared.marks.Point.{Point}
 use Rattle.sheet.specs.declared.marks.Side.{Side}
+use Rattle.sheet.specs.Sheets.{sheet}
 use Rattle.linalg.specs.declared.Row.{Row}
 use Rattle.linalg.specs.declared.Change.{Change}
 use Rattle.linalg.specs.declared.Normalized.{Normalized}
@@ -68,7 +70,7 @@ spread ps = record { fails = no_spread ps; number = SPREAD }
 unfoldable pub normalize_tests : List Float → Side → ℕ → List Test
 normalize_tests l side places =
     let ps = points side l in
-    marks_tests l ++ (spread ps ∷ room (2 * length ps) places ∷ [])
+    marks_tests sheet l ++ (spread ps ∷ room (2 * length ps) places ∷ [])
 
 -- the lent list with the normalised points in front
 unfoldable pub normalized_list : Change → List Point → List Float → List Float

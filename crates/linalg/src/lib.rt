@@ -7,7 +7,7 @@ ghost use Rattle.sheet.specs.Marks.{points as points_of};
 ghost use Rattle.linalg.specs.Normalize.{centroid_of, mean_distance, change_of, normalized_by, matrix_of, normalized_list, Normalizing};
 
 use rule::Refusal;
-use sheet::{Point, Points};
+use sheet::{Point, Points, Sheet};
 use std::f64::consts::SQRT_2;
 
 // A row of a 3 by 3 matrix.
@@ -130,11 +130,11 @@ fn write_points(points: Points, change: Change, lent: &mut [f64])
 
 // One side's points, normalised, into the lent list, x and y by turns, and the matrix of the change.
 // Refused with 5, 6, 12 or 9, in this order; the lent list then stays as it is.
-#[tactic(auto, unfolding(rule::specs::Order::first_failed, rule::specs::Order::decided, rule::specs::Order::if_passed, rule::specs::Order::room, crate::specs::Normalize::change_of, crate::specs::Normalize::spread, crate::specs::Normalize::normalize_tests, crate::specs::Normalize::normalize_answer, sheet::specs::Marks::marks_tests, sheet::specs::Marks::shape, sheet::specs::Marks::point), using(crate::proofs::Writing::counts))]
+#[tactic(auto, unfolding(rule::specs::Order::first_failed, rule::specs::Order::decided, rule::specs::Order::if_passed, rule::specs::Order::room, crate::specs::Normalize::change_of, crate::specs::Normalize::spread, crate::specs::Normalize::normalize_tests, crate::specs::Normalize::normalize_answer, estimator::specs::Marks::marks_tests, estimator::specs::Marks::shape, estimator::specs::Marks::point), using(sheet::proofs::Places::points_quarter))]
 pub fn normalize_points_2d(points: Points, lent: &mut [f64]) -> Result<Normalized, Refusal>
     ensures { Normalizing points.entry.marks.now points.entry.side lent.old result lent.new }
 {
-    sheet::check_marks(points.marks)?;
+    estimator::check_marks::<Sheet>(points.marks)?;
     let change = change_of(points).ok_or(Refusal::Spread)?;
     if lent.len() < 2 * points.len() {
         return Err(Refusal::Room);
