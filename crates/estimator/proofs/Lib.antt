@@ -1,2 +1,3 @@
 pub mod Range
 pub mod View
+pub mod Tests

@@ -6,7 +6,6 @@ use Rattle.std.specs.Prelude.{Result, Ok, Err}
 use Rattle.rule.specs.declared.Refusal.{Refusal}
 use Rattle.rule.specs.Answer.{Answer, refused, gives, told}
 use Rattle.rule.proofs.Views.{told_one}
-use Rattle.sheet.specs.declared.model.Model.{Model}
 use Rattle.book.specs.Score as Score
 use Rattle.judge.specs.Judging.{judged_as, answer_as, beyond_in, standing_of, supported, view_finding, view_verdict}
 use Rattle.judge.specs.declared.Judgement.{Judgement}
@@ -15,18 +14,18 @@ use Rattle.judge.specs.declared.Support.{Support}
 use Rattle.judge.specs.declared.Verdict.{Verdict}
 use Rattle.judge.specs.declared.Verdict.TheVariants.{Empty, Few, Scored}
 
-module _ {S : Type 0} (view : S → Score.Standing Model) (back : Score.Standing Model → S) (undone : (s : S) → back (view s) ≡ s) where
+module _ {S M : Type 0} (view : S → Score.Standing M) (back : Score.Standing M → S) (undone : (s : S) → back (view s) ≡ s) where
   -- both views of an answer that is given, and what they are of
-  both : Judgement S → Score.Judgement Model
+  both : Judgement S → Score.Judgement M
   both j = record { worth = judged_as view j.verdict; beyond = j.beyond }
 
-  verdict_of : Score.Judged Model → Verdict S
+  verdict_of : Score.Judged M → Verdict S
   verdict_of (Score.turned_down k) = Empty
   verdict_of Score.empty = Empty
   verdict_of (Score.few count) = Few count
   verdict_of (Score.scored s) = Scored (back s)
 
-  judgement_of : Score.Judgement Model → Judgement S
+  judgement_of : Score.Judgement M → Judgement S
   judgement_of j = record { verdict = verdict_of j.worth; beyond = j.beyond }
 
   judgement_back : (j : Judgement S) → judgement_of (both j) ≡ j
@@ -38,7 +37,7 @@ module _ {S : Type 0} (view : S → Score.Standing Model) (back : Score.Standing
       go (Few count) = refl
       go (Scored s) = λ i. Scored (undone s i)
 
-  told_by : Score.Judged Model → ℕ → Answer (Score.Judgement Model)
+  told_by : Score.Judged M → ℕ → Answer (Score.Judgement M)
   told_by (Score.turned_down k) beyond = refused k
   told_by Score.empty beyond = gives (record { worth = Score.empty; beyond = beyond })
   told_by (Score.few count) beyond = gives (record { worth = Score.few count; beyond = beyond })
@@ -49,7 +48,7 @@ module _ {S : Type 0} (view : S → Score.Standing Model) (back : Score.Standing
   told_is (Err e) = refl
   told_is (Ok j) = go j.verdict
     where
-      go : (v : Verdict S) → ◌≡◌ {A = Answer (Score.Judgement Model)} (gives (record { worth = judged_as view v; beyond = j.beyond })) (told_by (judged_as view v) j.beyond)
+      go : (v : Verdict S) → ◌≡◌ {A = Answer (Score.Judgement M)} (gives (record { worth = judged_as view v; beyond = j.beyond })) (told_by (judged_as view v) j.beyond)
       go Empty = refl
       go (Few count) = refl
       go (Scored s) = refl
@@ -57,9 +56,9 @@ module _ {S : Type 0} (view : S → Score.Standing Model) (back : Score.Standing
   pub answer_one : (x y : Result (Judgement S) Refusal) → answer_as view x ≡ answer_as view y → beyond_in x ≡ beyond_in y → x ≡ y
   answer_one x y h b = told_one both judgement_of judgement_back x y (told_is x ∙ ap₂ told_by h b ∙ sym (told_is y))
 
-pub verdict_one : (x y : Result (Judgement Standing) Refusal) → view_verdict x ≡ view_verdict y → beyond_in x ≡ beyond_in y → x ≡ y
+pub verdict_one : {M : Type 0} (x y : Result (Judgement (Standing M)) Refusal) → view_verdict x ≡ view_verdict y → beyond_in x ≡ beyond_in y → x ≡ y
 unfolding standing_of
 verdict_one = answer_one standing_of (λ s. record { support = record { model = s.model; count = s.count; stop = s.stop }; rms = s.rms }) (λ s. refl)
 
-pub finding_one : (rms : Model → Float) (x y : Result (Judgement Support) Refusal) → view_finding rms x ≡ view_finding rms y → beyond_in x ≡ beyond_in y → x ≡ y
+pub finding_one : {M : Type 0} (rms : M → Float) (x y : Result (Judgement (Support M)) Refusal) → view_finding rms x ≡ view_finding rms y → beyond_in x ≡ beyond_in y → x ≡ y
 finding_one rms = answer_one (supported rms) (λ s. record { model = s.model; count = s.count; stop = s.stop }) (λ s. refl)
