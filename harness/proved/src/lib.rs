@@ -1,10 +1,12 @@
 //! The proved leaves and the sheet's entries, from the archive libprobe.a; the
 //! picker is in [`pick`], its measuring and scoring in [`scoring`], the writers
-//! of its records in [`writing`].
+//! of its records in [`writing`]; what standing forms have of all these is in
+//! [`form`].
 //!
 //! Marks are one flat list, four numbers each. A side is 0 for the sheet and
 //! anything else for the pixels. A lent list is written from its front.
 
+pub mod form;
 pub mod pick;
 pub mod scoring;
 pub mod writing;
@@ -172,8 +174,18 @@ pub fn points_are_collinear(marks: &[f64], side: u32) -> u32 {
 
 /// 0, or the refusal; the rows, nine numbers each, go to the lent list.
 pub fn dlt_rows(marks: &[f64], rows: &mut [f64]) -> u32 {
-    // SAFETY: as for normalising.
-    unsafe { c::probe_dlt_rows(marks.as_ptr(), marks.len(), rows.as_mut_ptr(), rows.len()) }
+    to_lent(c::probe_dlt_rows, marks, rows)
+}
+
+/// Calls what reads a list and writes to another; tells what it answers.
+fn to_lent(
+    call: unsafe extern "C" fn(*const f64, usize, *mut f64, usize) -> u32,
+    list: &[f64],
+    lent: &mut [f64],
+) -> u32 {
+    // SAFETY: the pointers and lengths are those of slices, or NULL and 0; the
+    // first is only read, and the second is borrowed for this call alone.
+    unsafe { call(pick::of(list), list.len(), pick::lent(lent), lent.len()) }
 }
 
 /// What is told of a mark that is beyond.

@@ -45,34 +45,95 @@ mod c {
             state_len: usize,
         ) -> u32;
         pub unsafe fn probe_new_options(thresh: f64, state: *mut u64, state_len: usize) -> u32;
-        pub unsafe fn probe_trial(
-            state: *const u64,
-            state_len: usize,
-            record: *const u8,
-            record_len: usize,
-            marks: *const f64,
-            marks_len: usize,
-            stops: *const u32,
-            stops_len: usize,
-            out: *mut u64,
-            out_len: usize,
-        ) -> u32;
-        pub unsafe fn probe_winner_indices(
-            state: *const u64,
-            state_len: usize,
-            marks: *const f64,
-            marks_len: usize,
-            indices: *mut u32,
-            indices_len: usize,
-        ) -> u64;
-        pub unsafe fn probe_read_marks(
-            bytes: *const u8,
-            bytes_len: usize,
-            numbers: *mut f64,
-            numbers_len: usize,
-        );
     }
 }
+
+/// The calls that every family exports alike, each under its own name.
+macro_rules! calls {
+    ($trial:ident, $winner_indices:ident, $read_marks:ident) => {
+        unsafe extern "C" {
+            unsafe fn $trial(
+                state: *const u64,
+                state_len: usize,
+                record: *const u8,
+                record_len: usize,
+                marks: *const f64,
+                marks_len: usize,
+                stops: *const u32,
+                stops_len: usize,
+                out: *mut u64,
+                out_len: usize,
+            ) -> u32;
+            unsafe fn $winner_indices(
+                state: *const u64,
+                state_len: usize,
+                marks: *const f64,
+                marks_len: usize,
+                indices: *mut u32,
+                indices_len: usize,
+            ) -> u64;
+            unsafe fn $read_marks(
+                bytes: *const u8,
+                bytes_len: usize,
+                numbers: *mut f64,
+                numbers_len: usize,
+            );
+        }
+
+        /// A trial, as words: the new state's, then which outcome, the
+        /// refusal's number or the count, the rms's bits, and how many marks
+        /// are beyond under the fit.
+        pub fn trial(
+            state: &[u64],
+            record: &[u8],
+            marks: &[f64],
+            stops: &[u32],
+            out: &mut [u64],
+        ) -> u32 {
+            // SAFETY: the pointers and lengths are those of slices, or NULL and
+            // 0; the last is borrowed for this call alone.
+            unsafe {
+                $trial(
+                    of(state),
+                    state.len(),
+                    of(record),
+                    record.len(),
+                    of(marks),
+                    marks.len(),
+                    of(stops),
+                    stops.len(),
+                    lent(out),
+                    out.len(),
+                )
+            }
+        }
+
+        /// How many indices were written; 2^32 and more is a refusal.
+        pub fn winner_indices(state: &[u64], marks: &[f64], indices: &mut [u32]) -> u64 {
+            // SAFETY: as above.
+            unsafe {
+                $winner_indices(
+                    of(state),
+                    state.len(),
+                    of(marks),
+                    marks.len(),
+                    lent(indices),
+                    indices.len(),
+                )
+            }
+        }
+
+        /// The numbers of a file of marks, to the front of the lent list if it
+        /// has room for all of them.
+        pub fn read_marks(bytes: &[u8], numbers: &mut [f64]) {
+            // SAFETY: as above.
+            unsafe { $read_marks(of(bytes), bytes.len(), lent(numbers), numbers.len()) }
+        }
+    };
+}
+pub(crate) use calls;
+
+calls!(probe_trial, probe_winner_indices, probe_read_marks);
 
 /// What a probe answers where a list for its words is too short.
 pub const NO_WORDS: u32 = u32::MAX;
@@ -172,47 +233,4 @@ pub fn open_options(options: Options, marks: &[f64], stops: &[u32], state: &mut 
 pub fn new_options(thresh: f64, state: &mut [u64]) -> u32 {
     // SAFETY: as above.
     unsafe { c::probe_new_options(thresh, lent(state), state.len()) }
-}
-
-/// A trial, in 29 words: the new state's, then which outcome, the refusal's
-/// number or the count, the rms's bits, and how many marks are beyond under the
-/// fit.
-pub fn trial(state: &[u64], record: &[u8], marks: &[f64], stops: &[u32], out: &mut [u64]) -> u32 {
-    // SAFETY: as above.
-    unsafe {
-        c::probe_trial(
-            of(state),
-            state.len(),
-            of(record),
-            record.len(),
-            of(marks),
-            marks.len(),
-            of(stops),
-            stops.len(),
-            lent(out),
-            out.len(),
-        )
-    }
-}
-
-/// How many indices were written; 2^32 and more is a refusal.
-pub fn winner_indices(state: &[u64], marks: &[f64], indices: &mut [u32]) -> u64 {
-    // SAFETY: as above.
-    unsafe {
-        c::probe_winner_indices(
-            of(state),
-            state.len(),
-            of(marks),
-            marks.len(),
-            lent(indices),
-            indices.len(),
-        )
-    }
-}
-
-/// The numbers of a file of marks, to the front of the lent list if it has room
-/// for all of them.
-pub fn read_marks(bytes: &[u8], numbers: &mut [f64]) {
-    // SAFETY: as above.
-    unsafe { c::probe_read_marks(of(bytes), bytes.len(), lent(numbers), numbers.len()) }
 }
