@@ -11,17 +11,16 @@ use Rattle.std.specs.Prelude.{Ok}
 use Rattle.rule.specs.Answer.{gives, told}
 use Rattle.rule.specs.Order.{Test, first_failed, room}
 use Rattle.rule.proofs.Order.{first_passed, all_passed, none_failed, decided-gives, decided-none}
-use Rattle.sheet.specs.Marks.{marks_of, shape, point, few, marks_tests}
-use Rattle.sheet.specs.declared.model.Model.{Model}
+use Rattle.estimator.specs.Family.{Family, distances_of}
+use Rattle.estimator.specs.Marks.{shape, point, few, of_run, entries, marks_tests}
 use Rattle.book.specs.Score.{Judged}
 use Rattle.book.specs.Book.{Winner, held}
 use Rattle.records.specs.Options.{options_tests}
 use Rattle.records.proofs.Formed.{options_above_0}
 use Rattle.records.specs.Trial.{trial_record}
 use Rattle.records.specs.declared.options.RansacOptions.{RansacOptions}
-use Rattle.measure.specs.Distances.{distances_of}
 use Rattle.score.specs.Places.{indices_in}
-use Rattle.judge.specs.Judging.{Call, of_run, entries, call_tests, tested_marks, tested_tests, judge_of, judge_tested, judgement_of, judgement_tested}
+use Rattle.judge.specs.Judging.{Call, call_tests, tested_marks, tested_tests, judge_of, judge_tested, judgement_of, judgement_tested}
 use Rattle.judge.proofs.Ways.{judged_alike, beyond_alike}
 use Rattle.pick.specs.Run.{view_best, view_state}
 use Rattle.pick.specs.Opening.{opening_tests, opening_answer}
@@ -29,54 +28,54 @@ use Rattle.pick.specs.Trial.{tried_with, trial_answer, step_answer}
 use Rattle.pick.specs.Indices.{marks_order, under_answer, winner_answer, indices_answer}
 use Rattle.pick.specs.declared.run_state.State.{State}
 
-module _ (o : RansacOptions) (l : List Float) (table : List ℕ) where
+module _ {E M K : Type 0} (f : Family E M K) (e : E) (o : RansacOptions) (l : List Float) (table : List ℕ) where
   -- what the opening's tests say of its marks where they all pass
   pub record Fine : Type 0 where
-    pub shaped : (shape l).fails ≡ false
+    pub shaped : (shape f l).fails ≡ false
     pub points : (point l).fails ≡ false
-    pub enough : (few l).fails ≡ false
+    pub enough : (few f l).fails ≡ false
 
-  fine : first_failed (opening_tests o l table) ≡ 0 → Fine
+  fine : first_failed (opening_tests f e o l table) ≡ 0 → Fine
   unfolding opening_tests marks_tests shape point few
   fine h =
       let marks = all_passed (options_tests o) _ (options_above_0 o) (none_failed (options_tests o) _ h) ∙ h in
-      let d = first_passed (shape l) _ tt marks in
-      let e = first_passed (point l) _ tt d.1 in
-      let f = first_passed (few l) _ tt e.1 in
-      record { shaped = d.0; points = e.0; enough = f.0 }
+      let a = first_passed (shape f l) _ tt marks in
+      let b = first_passed (point l) _ tt a.1 in
+      let d = first_passed (few f l) _ tt b.1 in
+      record { shaped = a.0; points = b.0; enough = d.0 }
 
-  module _ (s₀ : State) (opening : told view_state (Ok s₀) ≡ opening_answer o l table) where
+  module _ (s₀ : State E M) (opening : told view_state (Ok s₀) ≡ opening_answer f e o l table) where
     accepted : Fine
     unfolding opening_answer
-    accepted = fine (decided-gives (first_failed (opening_tests o l table)) opening).0
+    accepted = fine (decided-gives (first_failed (opening_tests f e o l table)) opening).0
 
     -- ---- a trial
 
     -- Only 6 is left out, and it passes.
-    same_tests : (n : ℕ) (c : Call) → c.marks ≡ l → first_failed (tested_tests n c) ≡ first_failed (call_tests n c)
+    same_tests : (n : ℕ) (c : Call) → c.marks ≡ l → first_failed (tested_tests f n c) ≡ first_failed (call_tests f n c)
     unfolding tested_tests tested_marks call_tests marks_tests first_failed
-    same_tests n c e = rw e (go (of_run n l) (few l ∷ entries l c.stops ∷ trial_record c.bytes ∷ []))
+    same_tests n c h = rw h (go (of_run f n l) (few f l ∷ entries f l c.stops ∷ trial_record f.size c.bytes ∷ []))
       where
-        go : (t : Test) (rest : List Test) → first_failed (t ∷ shape l ∷ rest) ≡ first_failed (t ∷ shape l ∷ point l ∷ rest)
+        go : (t : Test) (rest : List Test) → first_failed (t ∷ shape f l ∷ rest) ≡ first_failed (t ∷ shape f l ∷ point l ∷ rest)
         go t rest = rw accepted.points
 
-    same-judgement : (p : RansacOptions) (n : ℕ) (c : Call) → c.marks ≡ l → judgement_tested p n c ≡ judgement_of p n c
+    same-judgement : (x : E) (p : RansacOptions) (n : ℕ) (c : Call) → c.marks ≡ l → judgement_tested f x p n c ≡ judgement_of f x p n c
     unfolding judge_tested judge_of
-    same-judgement p n c e =
-        ap₂ (λ (j : Judged Model) (far : ℕ). record { worth = j; beyond = far }) (judged_alike p c _ _ (same_tests n c e)) (beyond_alike p c _ _ (same_tests n c e))
+    same-judgement x p n c h =
+        ap₂ (λ (j : Judged M) (far : ℕ). record { worth = j; beyond = far }) (judged_alike f x p c _ _ (same_tests n c h)) (beyond_alike f x p c _ _ (same_tests n c h))
 
-    pub steps_as_trial : (s : State) (c : Call) → c.marks ≡ l → step_answer (view_state s) c ≡ trial_answer (view_state s) c
+    pub steps_as_trial : (s : State E M) (c : Call) → c.marks ≡ l → step_answer f (view_state s) c ≡ trial_answer f (view_state s) c
     unfolding step_answer trial_answer
-    steps_as_trial s c e = ap (tried_with (view_state s)) (same-judgement s.options s.n c e)
+    steps_as_trial s c h = ap (tried_with (view_state s)) (same-judgement s.estimator s.options s.n c h)
 
     -- ---- the indices
 
-    pub order_passes : (n places : ℕ) → n ≡ length (marks_of l) → length (marks_of l) ≤ places → 0 ≡ first_failed (marks_order n l places)
+    pub order_passes : (n places : ℕ) → n ≡ length (f.marks_of l) → length (f.marks_of l) ≤ places → 0 ≡ first_failed (marks_order f n l places)
     unfolding marks_order marks_tests first_failed of_run room
-    order_passes n places e h = rw (e, eq-eqb (length (marks_of l)) (length (marks_of l)) refl, accepted.shaped, accepted.points, accepted.enough, le-ltb places (length (marks_of l)) h)
+    order_passes n places k h = rw (k, eq-eqb (length (f.marks_of l)) (length (f.marks_of l)) refl, accepted.shaped, accepted.points, accepted.enough, le-ltb places (length (f.marks_of l)) h)
 
-    pub indices-written : (s : State) → s.n ≡ length (marks_of l) → (w : Winner Model) → view_best s.winner ≡ held w → (entry : List ℕ) → length (marks_of l) ≤ length entry
-        → indices_answer (view_state s) l entry ≡ gives (length (indices_in s.options.thresh (distances_of s.options.ratio l w.model)))
+    pub indices-written : (s : State E M) → s.n ≡ length (f.marks_of l) → (w : Winner M) → view_best s.winner ≡ held w → (entry : List ℕ) → length (f.marks_of l) ≤ length entry
+        → indices_answer f (view_state s) l entry ≡ gives (length (indices_in s.options.thresh (distances_of f s.estimator s.options.ratio l w.model)))
     unfolding indices_answer winner_answer under_answer
     indices-written s n w holds entry room_for =
-        rw holds (sym (decided-none (length (indices_in s.options.thresh (distances_of s.options.ratio l w.model))) (order_passes s.n (length entry) n room_for)))
+        rw holds (sym (decided-none (length (indices_in s.options.thresh (distances_of f s.estimator s.options.ratio l w.model))) (order_passes s.n (length entry) n room_for)))

@@ -15,8 +15,8 @@ use Rattle.rule.specs.Refusal.{number_of}
 use Rattle.rule.specs.Answer.{Answer as Answering, refused, gives, told, answered}
 use Rattle.rule.specs.Order.{Test, first_failed, if_passed}
 use Rattle.rule.proofs.Views.{told_apart, told_one, answered_one}
-use Rattle.sheet.specs.Marks.{shape, point, few, marks_tests}
-use Rattle.sheet.specs.declared.model.Model.{Model}
+use Rattle.estimator.specs.Family.{Family}
+use Rattle.estimator.specs.Marks.{shape, point, few, of_run, entries, marks_tests}
 use Rattle.book.specs.Score as Score
 use Rattle.book.specs.Score.{Judged, turned_down, Trial, unfitted, fitted, refitted, judged_by, judge_trial}
 use Rattle.book.specs.Book as Book
@@ -24,7 +24,7 @@ use Rattle.book.specs.Book.{scored_answer, entered}
 use Rattle.book.specs.Calls.{is_closed, tried}
 use Rattle.records.specs.Trial.{trial_record, trial_of}
 use Rattle.records.specs.declared.options.RansacOptions.{RansacOptions}
-use Rattle.judge.specs.Judging.{rule_of, Call, of_run, entries, call_tests, worth, judged_by as byTests, judge_of}
+use Rattle.judge.specs.Judging.{rule_of, Call, call_tests, worth, judged_by as byTests, judge_of}
 use Rattle.pick.specs.Run.{Run, view_best, view_state, view_outcome, view_tried}
 use Rattle.pick.specs.Trial.{trial_answer}
 use Rattle.pick.specs.declared.run_state.Winner.{Winner}
@@ -35,51 +35,52 @@ use Rattle.pick.specs.declared.run_state.Tried.{Tried}
 
 -- ---- the winner
 
-best_of : Book.Held Model → Option Winner
+best_of : {M : Type 0} → Book.Held M → Option (Winner M)
 best_of Book.none = None
 best_of (Book.held w) = Some (record { model = w.model; count = w.count; rms = w.rms; number = w.number })
 
-best_back : (b : Option Winner) → best_of (view_best b) ≡ b
+best_back : {M : Type 0} (b : Option (Winner M)) → best_of (view_best b) ≡ b
 unfolding best_of
 best_back None = refl
 best_back (Some w) = refl
 
-best_there : (h : Book.Held Model) → view_best (best_of h) ≡ h
+best_there : {M : Type 0} (h : Book.Held M) → view_best (best_of h) ≡ h
 unfolding best_of
 best_there Book.none = refl
 best_there (Book.held w) = refl
 
-pub best_one : (x y : Option Winner) → view_best x ≡ view_best y → x ≡ y
+pub best_one : {M : Type 0} (x y : Option (Winner M)) → view_best x ≡ view_best y → x ≡ y
 best_one = told_apart view_best best_of best_back
 
 -- ---- the state
 
-state_of : Run → State
+state_of : {E M : Type 0} → Run E M → State E M
 state_of r =
     record {
+      estimator = r.estimator;
       options = r.options;
       n = r.n;
       counts = record { read = r.book.read; empty = r.book.empties; few = r.book.fews; scored = r.book.scores; bound = r.book.bound };
       winner = best_of r.book.winner;
     }
 
-state_back : (s : State) → state_of (view_state s) ≡ s
+state_back : {E M : Type 0} (s : State E M) → state_of (view_state s) ≡ s
 unfolding state_of
 state_back s = rw (best_back s.winner)
 
-state_there : (r : Run) → view_state (state_of r) ≡ r
+state_there : {E M : Type 0} (r : Run E M) → view_state (state_of r) ≡ r
 unfolding state_of
 state_there r = rw (best_there r.book.winner)
 
-pub state_one : (x y : State) → view_state x ≡ view_state y → x ≡ y
+pub state_one : {E M : Type 0} (x y : State E M) → view_state x ≡ view_state y → x ≡ y
 state_one = told_apart view_state state_of state_back
 
-pub state_onto : (r : Run) → (s : State) × (view_state s ≡ r)
+pub state_onto : {E M : Type 0} (r : Run E M) → (s : State E M) × (view_state s ≡ r)
 state_onto r = (state_of r, state_there r)
 
 -- ---- the opening's answer, the next state's and the indices'
 
-pub state_told_one : (x y : Result State Refusal) → told view_state x ≡ told view_state y → x ≡ y
+pub state_told_one : {E M : Type 0} (x y : Result (State E M) Refusal) → told view_state x ≡ told view_state y → x ≡ y
 state_told_one = told_one view_state state_of state_back
 
 pub indexed-one : (x y : Result ℕ Refusal) → answered x ≡ answered y → x ≡ y
@@ -129,7 +130,7 @@ answers (Outcomes.Won k q) = refl
 pub outcome-one : (x y : Outcome) → view_outcome x ≡ view_outcome y → x ≡ y
 outcome-one x y h = told_apart apart outcome_of outcome_back x y (answered_one (apart x) (apart y) (answers x ∙ ap answering h ∙ sym (answers y)))
 
-pub tried-one : (x y : Tried) → view_tried x ≡ view_tried y → x ≡ y
+pub tried-one : {E M : Type 0} (x y : Tried E M) → view_tried x ≡ view_tried y → x ≡ y
 tried-one x y h =
     let s : x.state ≡ y.state = state_one x.state y.state (ap (λ a. a.run) h) in
     let o : x.outcome ≡ y.outcome = outcome-one x.outcome y.outcome (ap (λ a. a.outcome) h) in
@@ -139,17 +140,17 @@ tried-one x y h =
 -- ---- each answer that a trial's contract asks for can be had
 
 -- it is refused by one of the numbers, or not refused
-unfoldable Nameable : Judged Model → Type 0
+unfoldable Nameable : {M : Type 0} → Judged M → Type 0
 Nameable (turned_down k) = (e : Refusal) × (number_of e ≡ k)
 Nameable Score.empty = Unit {0}
 Nameable (Score.few k) = Unit {0}
 Nameable (Score.scored s) = Unit {0}
 
-module _ (o : Score.Options) (b : Book.Book Model) where
+module _ {M : Type 0} (o : Score.Options) (b : Book.Book M) where
   abbrev Had : Book.Outcome → Type 0
   Had x = (y : Outcome) × (view_outcome y ≡ x)
 
-  scored_had : (s : Score.Standing Model) (h : Book.Held Model) → Had (scored_answer s h)
+  scored_had : (s : Score.Standing M) (h : Book.Held M) → Had (scored_answer s h)
   unfolding scored_answer
   scored_had s h = go (Book.beats s h)
     where
@@ -157,14 +158,14 @@ module _ (o : Score.Options) (b : Book.Book Model) where
       go true = (Outcomes.Won s.count s.rms, refl)
       go false = (Outcomes.Held s.count s.rms, refl)
 
-  entered_had : (j : Judged Model) → Nameable j → Had (entered o b j).outcome
+  entered_had : (j : Judged M) → Nameable j → Had (entered o b j).outcome
   unfolding entered Nameable
   entered_had (turned_down k) n = (Outcomes.Refused n.0, ap Book.is_refused n.1)
   entered_had Score.empty n = (Outcomes.Empty, refl)
   entered_had (Score.few k) n = (Outcomes.Few k, refl)
   entered_had (Score.scored s) n = scored_had s b.winner
 
-  tried_had : (j : Judged Model) → Nameable j → Had (tried o b j).outcome
+  tried_had : (j : Judged M) → Nameable j → Had (tried o b j).outcome
   unfolding tried
   tried_had j n = go (is_closed b)
     where
@@ -188,16 +189,16 @@ none_fails : Fails []
 unfolding first_failed
 none_fails = record { by = inl refl }
 
-call_fails : (n : ℕ) (c : Call) → Fails (call_tests n c)
+call_fails : {E M K : Type 0} (f : Family E M K) (n : ℕ) (c : Call) → Fails (call_tests f n c)
 unfolding call_tests marks_tests of_run shape point few entries trial_record
-call_fails n c =
+call_fails f n c =
     one_more Refusals.Shape refl
     (one_more Refusals.Shape refl
     (one_more Refusals.Point refl (one_more Refusals.Few refl (one_more Refusals.Stops refl (one_more Refusals.Record refl none_fails)))))
 
 -- a record that is read is worth no refusal
-module _ (o : Score.Options) (distances : Model → List Float) (stops : List ℕ) where
-  by_fit : (fit stands : Model) → Nameable (judged_by o distances stops fit stands)
+module _ {M : Type 0} (o : Score.Options) (distances : M → List Float) (stops : List ℕ) where
+  by_fit : (fit stands : M) → Nameable (judged_by o distances stops fit stands)
   unfolding judged_by Nameable
   by_fit fit stands = go (ltb (Score.count_under o distances stops fit) o.least)
     where
@@ -205,24 +206,24 @@ module _ (o : Score.Options) (distances : Model → List Float) (stops : List �
       go true = tt
       go false = tt
 
-  by_trial : (t : Trial Model) → Nameable (judge_trial o distances stops t)
+  by_trial : (t : Trial M) → Nameable (judge_trial o distances stops t)
   unfolding judge_trial Nameable
   by_trial unfitted = tt
   by_trial (fitted fit) = by_fit fit fit
   by_trial (refitted fit refit) = by_fit fit _
 
-judged_nameable : (o : RansacOptions) (n : ℕ) (c : Call) → Nameable (judge_of o n c)
+judged_nameable : {E M K : Type 0} (f : Family E M K) (e : E) (o : RansacOptions) (n : ℕ) (c : Call) → Nameable (judge_of f e o n c)
 unfolding judge_of byTests worth if_passed Nameable
-judged_nameable o n c = go (first_failed (call_tests n c)) (call_fails n c).by
+judged_nameable f e o n c = go (first_failed (call_tests f n c)) (call_fails f n c).by
   where
-    go : (k : ℕ) → (k ≡ 0) ⊎ ((e : Refusal) × (number_of e ≡ k)) → Nameable (if_passed k (worth o c) (turned_down k))
-    go zero f = by_trial (rule_of o) _ c.stops (trial_of c.bytes)
+    go : (k : ℕ) → (k ≡ 0) ⊎ ((e : Refusal) × (number_of e ≡ k)) → Nameable (if_passed k (worth f e o c) (turned_down k))
+    go zero x = by_trial (rule_of o) _ c.stops (trial_of f c.bytes)
     go (suc k) (inl z) = absurd (omega (arith, z))
-    go (suc k) (inr e) = e
+    go (suc k) (inr x) = x
 
-pub trial_onto : (r : Run) (c : Call) → (t : Tried) × (view_tried t ≡ trial_answer r c)
+pub trial_onto : {E M K : Type 0} (f : Family E M K) (r : Run E M) (c : Call) → (t : Tried E M) × (view_tried t ≡ trial_answer f r c)
 unfolding trial_answer
-trial_onto r c =
-    let a = trial_answer r c in
-    let x = tried_had (rule_of r.options) r.book (judge_of r.options r.n c) (judged_nameable r.options r.n c) in
+trial_onto f r c =
+    let a = trial_answer f r c in
+    let x = tried_had (rule_of r.options) r.book (judge_of f r.estimator r.options r.n c) (judged_nameable f r.estimator r.options r.n c) in
     (record { state = state_of a.run; outcome = x.0; beyond = a.beyond }, λ i. record { run = state_there a.run i; outcome = x.1 i; beyond = a.beyond })

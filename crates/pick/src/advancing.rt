@@ -10,19 +10,20 @@ ghost use Rattle.pick.specs.Trial.{booked, step_booking, next_of, squares_then};
 
 use crate::before_end::BeforeEnd;
 use crate::run_state::{State, Winner};
+use estimator::Estimator;
 use judge::{Call, Support, Verdict};
 use rule::Refusal;
 
 // The winner after a scored trial: with a lower count the one so far stays whatever the root mean square
 // is, and with the same one unless that is less.
 #[tactic(auto, unfolding(book::specs::Book::winner_after, book::specs::Book::beats, book::specs::Book::is_better, score::specs::Less::less_of, judge::specs::Judging::support_with))]
-fn next_winner(
-    best: Option<Winner>,
-    t: Support,
+fn next_winner<M: Copy>(
+    best: Option<Winner<M>>,
+    t: Support<M>,
     number: u32,
     thresh: f64,
     squares: &[f64],
-) -> Winner
+) -> Winner<M>
     ensures { held (view_winner result) ≡ winner_after (support_with thresh squares.now t) number (view_best best) }
 {
     let won = |rms| Winner {
@@ -40,10 +41,10 @@ fn next_winner(
     }
 }
 
-impl BeforeEnd {
+impl<E: Copy, M: Copy> BeforeEnd<E, M> {
     // The state after a scored trial whose squares are at the front of the list.
     #[tactic(auto, using(crate::proofs::Booking::open_counts), unfolding(book::specs::Book::entered, judge::specs::Judging::rule_of, judge::specs::Judging::support_with))]
-    fn after_scored(self, t: Support, squares: &[f64]) -> State
+    fn after_scored(self, t: Support<M>, squares: &[f64]) -> State<E, M>
         requires { self.state.n ≤ length squares.now }
         ensures { view_state result ≡ (booked self.state (scored (support_with self.state.options.thresh (take self.state.n squares.now) t))).run }
     {
@@ -57,12 +58,16 @@ impl BeforeEnd {
 // One trial over marks that were tested before, refused as `step` refuses it: the state is the one
 // that `step` gives. The squares of the marks are measured into the list that is lent.
 #[tactic(auto, using(judge::proofs::Left::support_scored), unfolding(crate::specs::Trial::step_booking, crate::specs::Trial::next_of, crate::specs::Trial::squares_then, book::specs::Calls::tried, book::specs::Calls::is_refusal, book::specs::Calls::number_in, book::specs::Book::entered, book::specs::Book::scored_answer))]
-pub fn advance(s: State, call: Call, squares: &mut [f64; 2000]) -> Result<State, Refusal>
-    ensures result_value { told view_state result ≡ next_of (step_booking (view_state s) (call_of call.entry)) }
-    ensures squares_after { squares.new ≡ squares_then (view_state s) (call_of call.entry) squares.old }
+pub fn advance<E: Estimator>(
+    s: State<E, E::Model>,
+    call: Call,
+    squares: &mut [f64; 2000],
+) -> Result<State<E, E::Model>, Refusal>
+    ensures result_value { told view_state result ≡ next_of (step_booking E.family (view_state s) (call_of call.entry)) }
+    ensures squares_after { squares.new ≡ squares_then E.family (view_state s) (call_of call.entry) squares.old }
 {
     let before_end = BeforeEnd::of(s)?;
-    let found = judge::count_support(s.options, s.n, call, squares)?;
+    let found = judge::count_support(s.estimator, s.options, s.n, call, squares)?;
     match found.verdict {
         Verdict::Empty => Ok(before_end.empty()),
         Verdict::Few(_) => Ok(before_end.few()),

@@ -9,15 +9,15 @@ use crate::run_state::{State, Winner};
 use rule::Refusal;
 
 #[derive(Clone, Copy)]
-pub(crate) struct BeforeEnd {
-    pub state: State,
+pub(crate) struct BeforeEnd<E, M> {
+    pub state: State<E, M>,
     ghost takes_one: { is_closed (book_of state) ≡ false },
 }
 
-impl BeforeEnd {
+impl<E: Copy, M: Copy> BeforeEnd<E, M> {
     // Refused with 10 after the end, and where no run could have made the state.
     #[tactic(auto, unfolding(book::specs::Calls::is_closed))]
-    pub fn of(s: State) -> Result<BeforeEnd, Refusal>
+    pub fn of(s: State<E, M>) -> Result<BeforeEnd<E, M>, Refusal>
         ensures { MatchResult result (λ b. b.state ≡ s) (λ e. (e ≡ Refusal.Ended) × (is_closed (book_of s) ≡ true)) }
     {
         if s.counts.is_closed() {
@@ -29,7 +29,7 @@ impl BeforeEnd {
     // The state after a trial without a fit. (This and `few` stay two: one for both would take which count
     // goes up.)
     #[tactic(auto, using(crate::proofs::Booking::open_counts), unfolding(book::specs::Book::entered))]
-    pub fn empty(self) -> State
+    pub fn empty(self) -> State<E, M>
         ensures { view_state result ≡ (booked self.state empty).run }
     {
         let mut s = self.state;
@@ -40,7 +40,7 @@ impl BeforeEnd {
 
     // The state after a trial whose fit has too few marks, however many they are.
     #[tactic(auto, using(crate::proofs::Booking::open_counts), unfolding(book::specs::Book::entered))]
-    pub fn few(self) -> State
+    pub fn few(self) -> State<E, M>
         ensures { view_state result ≡ (booked self.state (few 0)).run }
     {
         let mut s = self.state;
@@ -51,7 +51,7 @@ impl BeforeEnd {
 
     // The state after a scored trial with this stop entry: it resets the bound, itself counted as read.
     #[tactic(auto, using(crate::proofs::Booking::open_counts))]
-    pub fn scored(self, winner: Option<Winner>, stop: u32) -> State
+    pub fn scored(self, winner: Option<Winner<M>>, stop: u32) -> State<E, M>
         ensures { view_state result ≡ scored_run (view_state self.state) (view_best winner) stop }
     {
         let mut s = self.state;

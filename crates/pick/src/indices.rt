@@ -7,18 +7,19 @@ ghost use Rattle.pick.specs.Run.{view_state};
 ghost use Rattle.pick.specs.Indices.{marks_order, indices_answer, indices_after};
 
 use crate::run_state::State;
+use estimator::Estimator;
 use rule::Refusal;
 
 // The tests after 11, in order.
-#[tactic(auto, using(crate::proofs::Order::marks_first, crate::proofs::Order::above_0), unfolding(rule::specs::Order::first_failed, rule::specs::Order::room, crate::specs::Indices::marks_order, judge::specs::Judging::of_run, sheet::specs::Marks::few))]
-fn check_order(n: usize, marks: &[f64], places: usize) -> Result<(), Refusal>
-    ensures { refusal_in result ≡ first_failed (marks_order n marks.now places) }
+#[tactic(auto, using(crate::proofs::Order::marks_first, crate::proofs::Order::above_0), unfolding(rule::specs::Order::first_failed, rule::specs::Order::room, crate::specs::Indices::marks_order, estimator::specs::Marks::of_run, estimator::specs::Marks::few))]
+fn check_order<E: Estimator>(n: usize, marks: &[f64], places: usize) -> Result<(), Refusal>
+    ensures { refusal_in result ≡ first_failed (marks_order E.family n marks.now places) }
 {
-    if sheet::mark_count(marks) != n {
+    if estimator::mark_count::<E>(marks) != n {
         return Err(Refusal::Shape);
     }
-    sheet::check_marks(marks)?;
-    if n < 4 {
+    estimator::check_marks::<E>(marks)?;
+    if n < E::MIN_SAMPLES {
         return Err(Refusal::Few);
     }
     if places < n {
@@ -31,13 +32,17 @@ fn check_order(n: usize, marks: &[f64], places: usize) -> Result<(), Refusal>
 // ascending, and answers how many; refused with 11, 5, 6, 7 or 9, in this order, and then nothing is
 // written. (How many, beside a list that is lent: document 01's form of an index list.)
 #[tactic(auto, using(crate::proofs::Written::count_written, crate::proofs::Written::all_written), unfolding(rule::specs::Order::decided, rule::specs::Order::if_passed, crate::specs::Indices::indices_answer, crate::specs::Indices::indices_after, crate::specs::Indices::winner_answer, crate::specs::Indices::winner_after, crate::specs::Indices::under_answer, crate::specs::Indices::under_after))]
-pub fn winner_indices(s: State, marks: &[f64], indices: &mut [u32]) -> Result<usize, Refusal>
-    ensures result_value { answered result ≡ indices_answer (view_state s) marks.now indices.old }
-    ensures indices_after { indices.new ≡ indices_after (view_state s) marks.now indices.old }
+pub fn winner_indices<E: Estimator>(
+    s: State<E, E::Model>,
+    marks: &[f64],
+    indices: &mut [u32],
+) -> Result<usize, Refusal>
+    ensures result_value { answered result ≡ indices_answer E.family (view_state s) marks.now indices.old }
+    ensures indices_after { indices.new ≡ indices_after E.family (view_state s) marks.now indices.old }
 {
     let winner = s.winner.ok_or(Refusal::NoWinner)?;
-    check_order(s.n, marks, indices.len())?;
+    check_order::<E>(s.n, marks, indices.len())?;
     // no heap, so there is a place for each mark of the longest run
     let mut squares = [0.0; 2000];
-    Ok(judge::write_inliers(s.options, winner.model, marks, &mut squares, indices))
+    Ok(judge::write_inliers(s.estimator, s.options, winner.model, marks, &mut squares, indices))
 }

@@ -8,21 +8,22 @@ ghost use Rattle.pick.specs.Trial.{booked, answer_of, answer_in, trial_answer, s
 
 use crate::before_end::BeforeEnd;
 use crate::run_state::{Outcome, State, Tried, Winner};
+use estimator::Estimator;
 use judge::{Call, Judgement, Standing, Verdict};
 use rule::Refusal;
 
 // Whether a scored trial wins: over the winner so far, or where nothing won before.
 #[tactic(auto, unfolding(book::specs::Book::beats, judge::specs::Judging::standing_of))]
-fn wins(s: Standing, best: Option<Winner>) -> bool
+fn wins<M: Copy>(s: Standing<M>, best: Option<Winner<M>>) -> bool
     ensures { result ≡ beats (standing_of s) (view_best best) }
 {
     best.is_none_or(|w| booking::is_better_model(s.support.count, s.rms, w.count, w.rms))
 }
 
-impl BeforeEnd {
+impl<E: Estimator> BeforeEnd<E, E::Model> {
     // The answer to a scored trial.
     #[tactic(auto, using(crate::proofs::Booking::open_counts), unfolding(book::specs::Book::entered, book::specs::Book::winner_after, book::specs::Book::scored_answer, judge::specs::Judging::standing_of, judge::specs::Judging::rule_of))]
-    fn held_or_won(self, s: Standing, beyond: u32) -> Tried
+    fn held_or_won(self, s: Standing<E::Model>, beyond: u32) -> Tried<E, E::Model>
         ensures { view_tried result ≡ answer_of (booked self.state (scored (standing_of s))) beyond }
     {
         let best = self.state.winner;
@@ -49,7 +50,7 @@ impl BeforeEnd {
 
     // The answer to a judged trial.
     #[tactic(auto, unfolding(book::specs::Book::entered))]
-    fn answered(self, j: Judgement<Standing>) -> Tried
+    fn answered(self, j: Judgement<Standing<E::Model>>) -> Tried<E, E::Model>
         ensures { view_tried result ≡ answer_of (booked self.state (judged_as standing_of j.verdict)) j.beyond }
     {
         let beyond = j.beyond;
@@ -70,10 +71,10 @@ impl BeforeEnd {
 
     // One trial over marks that were tested before: refused with 5, 7, 8 or 1, in this order.
     #[tactic(auto, unfolding(crate::specs::Trial::step_answer, book::specs::Calls::tried, book::specs::Book::entered))]
-    fn judged(self, call: Call) -> Result<Tried, Refusal>
-        ensures { answer_in self.state result ≡ step_answer (view_state self.state) (call_of call.entry) }
+    fn judged(self, call: Call) -> Result<Tried<E, E::Model>, Refusal>
+        ensures { answer_in self.state result ≡ step_answer E.family (view_state self.state) (call_of call.entry) }
     {
-        let j = judge::judge(self.state.options, self.state.n, call)?;
+        let j = judge::judge(self.state.estimator, self.state.options, self.state.n, call)?;
         Ok(self.answered(j))
     }
 }
@@ -81,26 +82,26 @@ impl BeforeEnd {
 // `tried` and `stepped` are `trial` and `step` with a refusal as an `Err`, which has no place for the old
 // state: those two put it beside.
 #[tactic(auto, using(crate::proofs::Order::trial_by_tests))]
-fn tried(s: State, call: Call) -> Result<Tried, Refusal>
-    ensures { answer_in s result ≡ trial_answer (view_state s) (call_of call.entry) }
+fn tried<E: Estimator>(s: State<E, E::Model>, call: Call) -> Result<Tried<E, E::Model>, Refusal>
+    ensures { answer_in s result ≡ trial_answer E.family (view_state s) (call_of call.entry) }
 {
     let before_end = BeforeEnd::of(s)?;
-    if sheet::mark_count(call.marks) != s.n {
+    if estimator::mark_count::<E>(call.marks) != s.n {
         return Err(Refusal::Shape);
     }
-    sheet::check_marks(call.marks)?;
+    estimator::check_marks::<E>(call.marks)?;
     before_end.judged(call)
 }
 
 #[tactic(auto, unfolding(crate::specs::Trial::step_answer, book::specs::Calls::tried))]
-fn stepped(s: State, call: Call) -> Result<Tried, Refusal>
-    ensures { answer_in s result ≡ step_answer (view_state s) (call_of call.entry) }
+fn stepped<E: Estimator>(s: State<E, E::Model>, call: Call) -> Result<Tried<E, E::Model>, Refusal>
+    ensures { answer_in s result ≡ step_answer E.family (view_state s) (call_of call.entry) }
 {
     BeforeEnd::of(s)?.judged(call)
 }
 
 // The old state, and the refusal.
-fn refused(s: State, refusal: Refusal) -> Tried
+fn refused<E: Copy, M: Copy>(s: State<E, M>, refusal: Refusal) -> Tried<E, M>
     ensures { view_tried result ≡ answer_in s (Err refusal) }
 {
     Tried {
@@ -112,15 +113,15 @@ fn refused(s: State, refusal: Refusal) -> Tried
 
 // One trial over marks that were tested before: refused with 10, 5, 7, 8 or 1, in this order. (Beside
 // `trial`: the opening has tested the marks, and each trial would test them again.)
-pub fn step(s: State, call: Call) -> Tried
-    ensures { view_tried result ≡ step_answer (view_state s) (call_of call.entry) }
+pub fn step<E: Estimator>(s: State<E, E::Model>, call: Call) -> Tried<E, E::Model>
+    ensures { view_tried result ≡ step_answer E.family (view_state s) (call_of call.entry) }
 {
     stepped(s, call).unwrap_or_else(|e| refused(s, e))
 }
 
 // One trial; refused with 10, 5, 6, 7, 8 or 1, in this order.
-pub fn trial(s: State, call: Call) -> Tried
-    ensures { view_tried result ≡ trial_answer (view_state s) (call_of call.entry) }
+pub fn trial<E: Estimator>(s: State<E, E::Model>, call: Call) -> Tried<E, E::Model>
+    ensures { view_tried result ≡ trial_answer E.family (view_state s) (call_of call.entry) }
 {
     tried(s, call).unwrap_or_else(|e| refused(s, e))
 }
