@@ -8,37 +8,52 @@ ghost use Rattle.rule.specs.Answer.{refusal_in};
 ghost use Rattle.judge.specs.Judging.{call_of};
 ghost use Rattle.demand.specs.Demand.{Opens, OpensBy, Tried as Tries, Stepped, Indexes, Ran};
 
+use estimator::Estimator;
 use judge::Call;
 use pick::{State, Tried};
 use records::RansacOptions;
 use rule::Refusal;
 
-pub fn open(o: RansacOptions, marks: &[f64], stops: &[u32]) -> Result<State, Refusal>
-    ensures { Opens o marks.now stops.now result }
+pub fn open<E: Estimator>(
+    e: E,
+    o: RansacOptions,
+    marks: &[f64],
+    stops: &[u32],
+) -> Result<State<E, E::Model>, Refusal>
+    ensures { Opens E.family e o marks.now stops.now result }
 {
-    pick::open(o, marks, stops)
+    pick::open(e, o, marks, stops)
 }
 
-pub fn open_record(bytes: &[u8], marks: &[f64], stops: &[u32]) -> Result<State, Refusal>
-    ensures { OpensBy bytes.now marks.now stops.now result }
+pub fn open_record<E: Estimator>(
+    e: E,
+    bytes: &[u8],
+    marks: &[f64],
+    stops: &[u32],
+) -> Result<State<E, E::Model>, Refusal>
+    ensures { OpensBy E.family e bytes.now marks.now stops.now result }
 {
-    pick::open_record(bytes, marks, stops)
+    pick::open_record(e, bytes, marks, stops)
 }
 
-pub fn trial(s: State, call: Call) -> Tried
-    ensures { Tries s (call_of call.entry) result.state (record { outcome = result.outcome; beyond = result.beyond }) }
+pub fn trial<E: Estimator>(s: State<E, E::Model>, call: Call) -> Tried<E, E::Model>
+    ensures { Tries E.family s (call_of call.entry) result.state (record { outcome = result.outcome; beyond = result.beyond }) }
 {
     pick::trial(s, call)
 }
 
-pub fn step(s: State, call: Call) -> Tried
-    ensures { Stepped s (call_of call.entry) result.state (record { outcome = result.outcome; beyond = result.beyond }) }
+pub fn step<E: Estimator>(s: State<E, E::Model>, call: Call) -> Tried<E, E::Model>
+    ensures { Stepped E.family s (call_of call.entry) result.state (record { outcome = result.outcome; beyond = result.beyond }) }
 {
     pick::step(s, call)
 }
 
-pub fn winner_indices(s: State, marks: &[f64], indices: &mut [u32]) -> Result<usize, Refusal>
-    ensures { Indexes s marks.now indices.old result indices.new }
+pub fn winner_indices<E: Estimator>(
+    s: State<E, E::Model>,
+    marks: &[f64],
+    indices: &mut [u32],
+) -> Result<usize, Refusal>
+    ensures { Indexes E.family s marks.now indices.old result indices.new }
 {
     pick::winner_indices(s, marks, indices)
 }
