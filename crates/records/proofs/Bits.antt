@@ -15,7 +15,8 @@ use lib.Ieee.Bits.{to_bits-of_bits}
 use Rattle.rule.specs.Lists.{every}
 use Rattle.fields.specs.Fields.{all_bytes}
 use Rattle.fields.proofs.Packing.{Fit, more}
-use Rattle.records.specs.Trial.{numbers_formed, doubles_formed}
+use Rattle.estimator.specs.Numbers.{doubles_formed}
+use Rattle.records.specs.Trial.{numbers_formed}
 
 -- by what a read of any place gives
 pub by_places : {A : Type 0} (test : A → Bool) (l : List A) (d : A) → ((i : ℕ) → T (test (get_or l i d))) → T (every test l)

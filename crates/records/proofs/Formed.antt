@@ -1,5 +1,5 @@
 -- Options and trials, one law for each way out of their readers. Assumes nothing.
-use mathlib.Core.Path.{◌≡◌, refl, sym, ap, ◌∙◌}
+use mathlib.Core.Path.{◌≡◌, refl, sym, ap, subst, ◌∙◌}
 use mathlib.Core.Bool.{Bool, true, false, not, cond, ◌&&◌, ◌||◌, true≢false}
 use mathlib.Core.List.{List, [], ◌∷◌, map}
 use Prim.Native.Nat.{ℕ, ◌+◌, ◌-◌, ◌*◌, ◌≤◌, ◌<◌}
@@ -8,31 +8,30 @@ use borrow.Author.Tests.{eq-eqb, ne_eqb, eqb-true, eqb-false, ltb-false}
 use mir.Syntax.{w8}
 use mir.Val.{Fits}
 use Rattle.std.specs.Bool.{then_some}
-use Rattle.std.specs.Prelude.{Option}
+use Rattle.std.specs.Prelude.{Option, Some, None}
 use Rattle.std.proofs.lemmas.Bool.{and_parts}
-use Rattle.std.proofs.lemmas.List.{drop-take}
+use Rattle.std.proofs.lemmas.List.{take_rest, take-replicate, drop-replicate}
 use Rattle.std.proofs.lemmas.List.FromFn.{fill_by_all}
 use lib.Dec.{T, leb, eqb, ltb}
-use lib.ListN.{length, get_or, take, drop, length-drop, length-map, get_or-map}
-use lib.Seq.{take_at, take-add, drop-drop, length-take-le, get_or-take, get_or-drop}
+use lib.ListN.{length, get_or, take, drop, replicate, length-drop, length-map, get_or-map}
+use lib.Seq.{drop-drop, length-take-le, get_or-take, get_or-drop}
 use lib.Ieee.{Float, binary64, of_bits}
 use Rattle.rule.specs.Refusal.{RECORD}
 use Rattle.rule.specs.Answer.{Answer, refused, gives}
 use Rattle.rule.specs.Order.{first_failed, decided}
-use Rattle.rule.proofs.Lists.{places_at, one_by_one}
 use Rattle.rule.proofs.Tests.{neither}
 use Rattle.rule.proofs.Order.{numbered, first_passed}
 use Rattle.numbers.specs.Constants.{one}
 use Rattle.numbers.specs.Ratio.{ratio}
-use Rattle.sheet.specs.Distance.{model_numbers, model_of}
-use Rattle.sheet.specs.declared.model.Model.{Model}
 use Rattle.book.specs.Score.{Trial, unfitted, fitted, refitted}
 use Rattle.fields.specs.Fields.{little_endian, longs_of, byte_at, word_at, long_at, double_at, zero_bytes}
 use Rattle.fields.specs.Packing.{size_of, unpacked}
 use Rattle.fields.proofs.Reading.{longs_count, long_spelled}
 use Rattle.fields.proofs.Packing.{Fit, fit-taken, fit-left, unpacked-fit}
+use Rattle.estimator.specs.Family.{Family}
+use Rattle.estimator.specs.Numbers.{numbers_at, model_read}
 use Rattle.records.specs.Options.{layout_by, fields_in, options_sound, ratio_from, options_from, options_formed, options_record, options_of, options_answer, thresh, confidence, iters, options_tests}
-use Rattle.records.specs.Trial.{trial_layout, model_from, marked, marks_formed, numbers_formed, trial_sound, trial_from, trial_formed, trial_record, trial_of, trial_answer, nine_in, fit_bits, refit_bits, parts_formed, doubles_formed, view_recorded}
+use Rattle.records.specs.Trial.{trial_layout, model_from, marked, marks_formed, numbers_formed, trial_sound, trial_from, trial_formed, trial_record, trial_of, trial_answer, fit_bits, refit_bits, view_recorded}
 use Rattle.records.specs.declared.trial.Fitted.{Fitted}
 use Rattle.records.specs.declared.options.RansacOptions.{RansacOptions}
 use Rattle.records.proofs.Bits.{formed_again, bytes_read}
@@ -117,118 +116,131 @@ few-iters o h =
 
 -- ---- a trial's record
 
-pub nine : (bits : List ℕ) → length bits ≡ 9 → model_numbers (model_from bits) ≡ map (of_bits binary64) bits
-unfolding model_numbers model_from places_at
-nine bits size = sym (one_by_one 9 0 (map (of_bits binary64) bits) (of_bits binary64 0) (length-map bits (of_bits binary64) ∙ size))
-
-first_taken : (n r : ℕ) (l : List ℕ) → n ≤ length l → take n (take (n + r) l) ≡ take n l
-first_taken n r l h = ap (take n) (take-add n r l) ∙ take_at (take n l) (take r (drop n l)) n (length-take-le n l h)
-
-in_turn : (a b c : Bool) → (a && (b && c)) ≡ (b && (a && c))
-in_turn true b c = refl
-in_turn false true c = refl
-in_turn false false c = refl
-
--- nine numbers in a part of the bytes, from the double at place i on
-module _ (l : List ℕ) (i : ℕ) (inside : 8 * i + 72 ≤ length l) where
-  abbrev part : List ℕ
-  part = take 72 (drop (8 * i) l)
+-- n numbers from the front of the bytes from the double at place i on
+module _ (n : ℕ) (l : List ℕ) (i : ℕ) (inside : 8 * i + 8 * n ≤ length l) where
+  abbrev rest : List ℕ
+  rest = drop (8 * i) l
 
   abbrev bits : List ℕ
-  bits = take 9 (drop i (longs_of l))
+  bits = take n (drop i (longs_of l))
 
-  long_there : (k : ℕ) → k < 9 → long_at part k ≡ long_at l (i + k)
-  long_there k h =
-      let wide : length part ≡ 72 = length-take-le 72 (drop (8 * i) l) (rw (length-drop (8 * i) l) (omega arith)) in
-      let e : 72 ≡ 8 * k + (8 + (64 - 8 * k)) = omega arith in
-      let g : 8 * i + 8 * k ≡ 8 * (i + k) = omega arith in
-      let same : take 8 (drop (8 * k) part) ≡ take 8 (drop (8 * (i + k)) l) =
-      ap (λ n. take 8 (drop (8 * k) (take n (drop (8 * i) l)))) e
-      ∙ ap (take 8) (drop-take (8 * k) (8 + (64 - 8 * k)) (drop (8 * i) l))
-      ∙ rw (drop-drop (8 * k) (8 * i) l, g) (first_taken 8 (64 - 8 * k) (drop (8 * (i + k)) l) (rw (length-drop (8 * (i + k)) l) (omega arith)))
-      in
-      long_spelled part k (omega arith) ∙ ap little_endian same ∙ sym (long_spelled l (i + k) (omega arith))
+  long_there : (j : ℕ) → j < n → long_at rest j ≡ long_at l (i + j)
+  long_there j h =
+      let e : 8 * i + 8 * j ≡ 8 * (i + j) = omega arith in
+      long_spelled rest j (rw (length-drop (8 * i) l) (omega arith))
+      ∙ ap (λ part. little_endian (take 8 part)) (drop-drop (8 * j) (8 * i) l ∙ ap (λ p. drop p l) e)
+      ∙ sym (long_spelled l (i + j) (omega arith))
 
-  number_there : (k : ℕ) → k < 9 → double_at part k ≡ get_or (map (of_bits binary64) bits) k (of_bits binary64 0)
+  number_there : (j : ℕ) → j < n → double_at rest j ≡ get_or (map (of_bits binary64) bits) j (of_bits binary64 0)
   unfolding double_at long_at
-  number_there k h =
-      ap (of_bits binary64) (long_there k h ∙ sym (get_or-take 9 (drop i (longs_of l)) k 0 h ∙ get_or-drop i (longs_of l) k 0)) ∙ sym (get_or-map (of_bits binary64) bits k 0)
+  number_there j h =
+      ap (of_bits binary64) (long_there j h ∙ sym (get_or-take n (drop i (longs_of l)) j 0 h ∙ get_or-drop i (longs_of l) j 0)) ∙ sym (get_or-map (of_bits binary64) bits j 0)
 
-  pub nine_there : nine_in part ≡ map (of_bits binary64) bits
-  unfolding nine_in
-  nine_there =
-      let count : length bits ≡ 9 = length-take-le 9 (drop i (longs_of l)) (rw (length-drop i (longs_of l), longs_count l) (omega arith)) in
-      sym (fill_by_all (double_at part) (map (of_bits binary64) bits) 9 (of_bits binary64 0) (length-map bits (of_bits binary64) ∙ count) (λ k h. sym (number_there k h)))
+  pub numbers_there : numbers_at n rest ≡ map (of_bits binary64) bits
+  unfolding numbers_at
+  numbers_there =
+      let count : length bits ≡ n = length-take-le n (drop i (longs_of l)) (rw (length-drop i (longs_of l), longs_count l) (omega arith)) in
+      sym (fill_by_all (double_at rest) (map (of_bits binary64) bits) n (of_bits binary64 0) (length-map bits (of_bits binary64) ∙ count) (λ j h. sym (number_there j h)))
 
 -- Marks that may stand in a record mark no refit without a fit, so the code's trial is the record's.
 ordered : (a b : ℕ) → marks_formed a b ≡ true → (eqb a 1 || not (eqb b 1)) ≡ true
 unfolding marks_formed
 ordered a b h = (and_parts (leb b 1) _ (and_parts (leb a 1) _ h).1).1
 
-abbrev pub given_by : (fit_mark refit_mark : Bool) → (fit refit : Model) → Option Fitted
-given_by a b fit refit = then_some a (record { fit = fit; refit = then_some b refit })
+module _ {M : Type 0} where
+  abbrev given_by : (fit_mark refit_mark : Bool) → (fit refit : M) → Option (Fitted M)
+  given_by a b fit refit = then_some a (record { fit = fit; refit = then_some b refit })
 
-given_is : (a b : Bool) (fit refit : Model) → (a || not b) ≡ true → cond b (refitted fit refit) (cond a (fitted fit) unfitted) ≡ view_recorded (given_by a b fit refit)
-given_is true true fit refit h = refl
-given_is true false fit refit h = refl
-given_is false true fit refit h = absurd (true≢false (sym h))
-given_is false false fit refit h = refl
+  given_is : (a b : Bool) (fit refit : M) → (a || not b) ≡ true → cond b (refitted fit refit) (cond a (fitted fit) unfitted) ≡ view_recorded (given_by a b fit refit)
+  given_is true true fit refit h = refl
+  given_is true false fit refit h = refl
+  given_is false true fit refit h = absurd (true≢false (sym h))
+  given_is false false fit refit h = refl
 
-module _ (l : List ℕ) (size : length l ≡ 152) (bytes : (i : ℕ) → Fits w8 (get_or l i 0)) where
-  abbrev f : List ℕ
-  f = unpacked trial_layout l
+  -- what the code makes of two marks and of what may stand behind them
+  abbrev pub answer_by : (fit_mark refit_mark : Bool) → (fit refit : Option M) → Answer (Trial M)
+  answer_by a b None refit = refused RECORD
+  answer_by a b (Some fit) None = refused RECORD
+  answer_by a b (Some fit) (Some refit) = gives (view_recorded (given_by a b fit refit))
 
-  abbrev fit : List Float
-  fit = nine_in (take 72 (drop 8 l))
+  by_parts : (a b z m p q : Bool) (fit refit : M) (t : Trial M) → (m ≡ true → t ≡ view_recorded (given_by a b fit refit))
+      → cond (m && (z && (p && q))) (gives t) (refused RECORD) ≡ cond (z && m) (answer_by a b (cond p (Some fit) None) (cond q (Some refit) None)) (refused RECORD)
+  by_parts a b true true true true fit refit t same = ap gives (same refl)
+  by_parts a b true true true false fit refit t same = refl
+  by_parts a b true true false q fit refit t same = refl
+  by_parts a b true false p q fit refit t same = refl
+  by_parts a b false true p q fit refit t same = refl
+  by_parts a b false false p q fit refit t same = refl
 
-  abbrev refit : List Float
-  refit = nine_in (take 72 (drop 80 l))
+-- the bytes from a place on, as the code has them
+abbrev pub behind : ℕ → List ℕ → List ℕ
+behind at l = take (length l - at) (drop at l)
 
-  fit_is : fit ≡ map (of_bits binary64) (fit_bits f)
-  fit_is = nine_there l 1 (omega arith) ∙ ap (map (of_bits binary64)) (sym (fit_bits_placed l size))
+module _ {E M K : Type 0} (f : Family E M K) where
+  -- a candidate whose numbers have these bits
+  read_is : (mark : Bool) (l bits : List ℕ) → numbers_at f.size l ≡ map (of_bits binary64) bits → Fit (replicate f.size 8) bits
+      → model_read f mark l ≡ cond (numbers_formed mark bits) (Some (model_from f bits)) None
+  unfolding model_read model_from
+  read_is mark l bits same fit = rw (same, formed_again mark f.size bits fit)
 
-  refit_is : refit ≡ map (of_bits binary64) (refit_bits f)
-  refit_is = nine_there l 10 (omega arith) ∙ ap (map (of_bits binary64)) (sym (refit_bits_placed l size))
+  module _ (l : List ℕ) (size : length l ≡ 8 + 16 * f.size) (bytes : (i : ℕ) → Fits w8 (get_or l i 0)) where
+    abbrev fields : List ℕ
+    fields = unpacked (trial_layout f.size) l
 
-  fits : Fit trial_layout f
-  fits = unpacked-fit trial_layout l (size ∙ sym trial_size) (bytes_read l bytes)
+    abbrev a : ℕ
+    a = get_or l 0 0
 
-  fit_formed : (mark : Bool) → doubles_formed mark fit ≡ numbers_formed mark (fit_bits f)
-  unfolding fit_bits trial_layout
-  fit_formed mark = ap (doubles_formed mark) fit_is ∙ formed_again mark 9 (fit_bits f) (fit-taken 9 (fit-left 3 fits))
+    abbrev b : ℕ
+    b = get_or l 1 0
 
-  refit_formed : (mark : Bool) → doubles_formed mark refit ≡ numbers_formed mark (refit_bits f)
-  unfolding refit_bits trial_layout
-  refit_formed mark = ap (doubles_formed mark) refit_is ∙ formed_again mark 9 (refit_bits f) (fit-taken 9 (fit-left 12 fits))
+    fits : Fit (trial_layout f.size) fields
+    fits = unpacked-fit (trial_layout f.size) l (size ∙ sym (trial_size f.size)) (bytes_read l bytes)
 
-  formed_there : trial_formed l ≡ (zero_bytes 2 8 l && parts_formed (get_or l 0 0) (get_or l 1 0) fit refit)
-  unfolding trial_formed trial_sound marked parts_formed byte_at
-  formed_there =
-      rw (trial_size, eq-eqb (length l) 152 size, ← fit_placed l size, ← refit_mark_placed l size, ← trial_filler_placed l size, ← fit_formed, ← refit_formed)
-      (in_turn (marks_formed (get_or l 0 0) (get_or l 1 0)) (zero_bytes 2 8 l) _)
+    fit_fits : Fit (replicate f.size 8) (fit_bits f.size fields)
+    unfolding fit_bits trial_layout
+    fit_fits = subst (λ (w : List ℕ). Fit w (fit_bits f.size fields)) (take-replicate f.size (2 * f.size) 8 (omega arith)) (fit-taken f.size (fit-left 3 fits))
 
-  abbrev sound : Bool
-  sound = zero_bytes 2 8 l && parts_formed (get_or l 0 0) (get_or l 1 0) fit refit
+    refit_fits : Fit (replicate f.size 8) (refit_bits f.size fields)
+    unfolding refit_bits trial_layout
+    refit_fits =
+        let e : take f.size (drop (3 + f.size) (trial_layout f.size)) ≡ replicate f.size 8 =
+        ap (take f.size) (sym (drop-drop f.size 3 (trial_layout f.size)) ∙ drop-replicate f.size (2 * f.size) 8) ∙ take-replicate f.size (2 * f.size - f.size) 8 (omega arith)
+        in
+        subst (λ (w : List ℕ). Fit w (refit_bits f.size fields)) e (fit-taken f.size (fit-left (3 + f.size) fits))
 
-  -- what the code makes of the marks and the numbers
-  abbrev given : Option Fitted
-  given = given_by (eqb (get_or l 0 0) 1) (eqb (get_or l 1 0) 1) (model_of fit) (model_of refit)
+    fit_read : (mark : Bool) → model_read f mark (behind 8 l) ≡ cond (numbers_formed mark (fit_bits f.size fields)) (Some (model_from f (fit_bits f.size fields))) None
+    fit_read mark =
+        rw (take_rest l 8)
+        (read_is mark (drop 8 l) (fit_bits f.size fields) (numbers_there f.size l 1 (omega arith) ∙ ap (map (of_bits binary64)) (sym (fit_bits_placed f.size l size))) fit_fits)
 
-  trial_there : sound ≡ true → trial_of l ≡ view_recorded given
-  unfolding trial_of trial_from marked byte_at model_from parts_formed
-  trial_there h =
-      let marks = (and_parts (marks_formed (get_or l 0 0) (get_or l 1 0)) _ (and_parts (zero_bytes 2 8 l) _ h).1).0 in
-      rw (← fit_placed l size, ← refit_mark_placed l size, ← fit_is, ← refit_is)
-      (given_is (eqb (get_or l 0 0) 1) (eqb (get_or l 1 0) 1) (model_of fit) (model_of refit) (ordered (get_or l 0 0) (get_or l 1 0) marks))
+    refit_read : (mark : Bool) → model_read f mark (behind (8 + 8 * f.size) l) ≡ cond (numbers_formed mark (refit_bits f.size fields)) (Some (model_from f (refit_bits f.size fields))) None
+    refit_read mark =
+        let e : 8 + 8 * f.size ≡ 8 * (1 + f.size) = omega arith in
+        rw (take_rest l (8 + 8 * f.size), e)
+        (read_is mark (drop (8 * (1 + f.size)) l) (refit_bits f.size fields)
+        (numbers_there f.size l (1 + f.size) (omega arith) ∙ ap (map (of_bits binary64)) (sym (refit_bits_placed f.size l size))) refit_fits)
 
-  pub trial_read : trial_answer l ≡ cond sound (gives (view_recorded given)) (refused RECORD)
-  unfolding trial_answer trial_record
-  trial_read = by_test (trial_formed l) (trial_of l) ∙ rw formed_there (go sound trial_there)
-    where
-      go : (b : Bool) → (b ≡ true → trial_of l ≡ view_recorded given) → ◌≡◌ {A = Answer (Trial Model)} (cond b (gives (trial_of l)) (refused RECORD)) (cond b (gives (view_recorded given)) (refused RECORD))
-      go true same = ap gives (same refl)
-      go false same = refl
+    formed_there : trial_formed f.size l
+        ≡ (marks_formed a b && (zero_bytes 2 8 l && (numbers_formed (eqb a 1) (fit_bits f.size fields) && numbers_formed (eqb b 1) (refit_bits f.size fields))))
+    unfolding trial_formed trial_sound marked byte_at
+    formed_there =
+        rw (trial_size f.size, eq-eqb (length l) (8 + 16 * f.size) size, ← fit_placed f.size l size, ← refit_mark_placed f.size l size, ← trial_filler_placed f.size l size)
 
-pub other_length : (l : List ℕ) → (length l ≡ 152 → ⊥) → trial_answer l ≡ refused RECORD
-unfolding trial_answer trial_record trial_formed
-other_length l h = by_test (trial_formed l) (trial_of l) ∙ rw (trial_size, ne_eqb (length l) 152 h)
+    trial_there : marks_formed a b ≡ true → trial_of f l ≡ view_recorded (given_by (eqb a 1) (eqb b 1) (model_from f (fit_bits f.size fields)) (model_from f (refit_bits f.size fields)))
+    unfolding trial_of trial_from marked byte_at
+    trial_there h =
+        rw (← fit_placed f.size l size, ← refit_mark_placed f.size l size)
+        (given_is (eqb a 1) (eqb b 1) (model_from f (fit_bits f.size fields)) (model_from f (refit_bits f.size fields)) (ordered a b h))
+
+    pub trial_read : trial_answer f l
+        ≡ cond (zero_bytes 2 8 l && marks_formed a b) (answer_by (eqb a 1) (eqb b 1) (model_read f (eqb a 1) (behind 8 l)) (model_read f (eqb b 1) (behind (8 + 8 * f.size) l))) (refused RECORD)
+    unfolding trial_answer trial_record
+    trial_read =
+        by_test (trial_formed f.size l) (trial_of f l)
+        ∙ rw (formed_there, fit_read (eqb a 1), refit_read (eqb b 1))
+        (by_parts (eqb a 1) (eqb b 1) (zero_bytes 2 8 l) (marks_formed a b) (numbers_formed (eqb a 1) (fit_bits f.size fields)) (numbers_formed (eqb b 1) (refit_bits f.size fields))
+        (model_from f (fit_bits f.size fields)) (model_from f (refit_bits f.size fields)) (trial_of f l) trial_there)
+
+  pub other_length : (l : List ℕ) → (length l ≡ 8 + 16 * f.size → ⊥) → trial_answer f l ≡ refused RECORD
+  unfolding trial_answer trial_record trial_formed
+  other_length l h = by_test (trial_formed f.size l) (trial_of f l) ∙ rw (trial_size f.size, ne_eqb (length l) (8 + 16 * f.size) h)

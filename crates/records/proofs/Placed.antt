@@ -2,7 +2,7 @@
 use mathlib.Core.Path.{◌≡◌, refl, sym, ap, ◌∙◌}
 use mathlib.Core.Bool.{Bool, true, false, cond}
 use mathlib.Core.List.{List, map}
-use Prim.Native.Nat.{ℕ, ◌/◌, ◌≤◌, ◌<◌}
+use Prim.Native.Nat.{ℕ, suc, ◌+◌, ◌*◌, ◌/◌, ◌≤◌, ◌<◌}
 use native.Mathlib.Omega.{arith}
 use borrow.Author.Tests.{eq-eqb, ne_eqb}
 use lib.Dec.{eqb}
@@ -14,7 +14,7 @@ use Rattle.numbers.specs.Constants.{one}
 use Rattle.fields.specs.Fields.{little_endian, fields_of, longs_of, byte_at, word_at, double_at, zero_bytes}
 use Rattle.fields.specs.Packing.{size_of, unpacked}
 use Rattle.fields.proofs.Reading.{word_spelled, long_spelled}
-use Rattle.fields.proofs.Packing.{field_placed, byte_spelled, zero_spelled, unpacked_even}
+use Rattle.fields.proofs.Packing.{field_placed, byte_spelled, zero_spelled, even_size, unpacked_even}
 use Rattle.records.specs.Options.{short_layout, options_layout, layout_by, fields_in, ratio_from}
 use Rattle.records.specs.Trial.{trial_layout, fit_bits, refit_bits}
 
@@ -79,37 +79,38 @@ ratio_placed l size =
 
 -- ---- a trial
 
-pub trial_size : size_of trial_layout ≡ 152
-unfolding size_of trial_layout
-trial_size = refl
-
-module _ (l : List ℕ) (size : length l ≡ 152) where
-  abbrev trial : List ℕ
-  trial = unpacked trial_layout l
-
-  pub fit_placed : byte_at l 0 ≡ get_or trial 0 0
+module _ (k : ℕ) where
+  pub trial_size : size_of (trial_layout k) ≡ 8 + 16 * k
   unfolding size_of trial_layout
-  fit_placed = byte_spelled l 0 (omega arith) ∙ sym (field_placed trial_layout l 0 (omega arith))
+  trial_size = rw (even_size 8 (2 * k)) (omega arith)
 
-  pub refit_mark_placed : byte_at l 1 ≡ get_or trial 1 0
-  unfolding size_of trial_layout
-  refit_mark_placed = byte_spelled l 1 (omega arith) ∙ sym (field_placed trial_layout l 1 (omega arith))
+  module _ (l : List ℕ) (size : length l ≡ 8 + 16 * k) where
+    abbrev trial : List ℕ
+    trial = unpacked (trial_layout k) l
 
-  pub trial_filler_placed : zero_bytes 2 8 l ≡ eqb (get_or trial 2 0) 0
-  unfolding size_of trial_layout
-  trial_filler_placed = zero_spelled 2 6 l (omega arith) ∙ ap (λ n. eqb n 0) (sym (field_placed trial_layout l 2 (omega arith)))
+    pub fit_placed : byte_at l 0 ≡ get_or trial 0 0
+    unfolding size_of trial_layout
+    fit_placed = byte_spelled l 0 (omega arith) ∙ sym (field_placed (trial_layout k) l 0 (omega arith))
 
-  -- the eighteen numbers are the eight-byte fields from the second on
-  numbers : drop 3 trial ≡ drop 1 (longs_of l)
-  unfolding unpacked trial_layout longs_of fields_of parts_of first_parts
-  numbers =
-      let e : length l / 8 ≡ 19 = omega (arith, size) in
-      rw (e) (unpacked_even 8 18 (drop 6 (drop 1 (drop 1 l))) ∙ ap (λ k. map little_endian (first_parts 8 18 k)) (ap (drop 6) (drop-drop 1 1 l) ∙ drop-drop 6 2 l))
+    pub refit_mark_placed : byte_at l 1 ≡ get_or trial 1 0
+    unfolding size_of trial_layout
+    refit_mark_placed = byte_spelled l 1 (omega arith) ∙ sym (field_placed (trial_layout k) l 1 (omega arith))
 
-  pub fit_bits_placed : fit_bits trial ≡ take 9 (drop 1 (longs_of l))
-  unfolding fit_bits
-  fit_bits_placed = ap (take 9) numbers
+    pub trial_filler_placed : zero_bytes 2 8 l ≡ eqb (get_or trial 2 0) 0
+    unfolding size_of trial_layout
+    trial_filler_placed = zero_spelled 2 6 l (omega arith) ∙ ap (λ n. eqb n 0) (sym (field_placed (trial_layout k) l 2 (omega arith)))
 
-  pub refit_bits_placed : refit_bits trial ≡ take 9 (drop 10 (longs_of l))
-  unfolding refit_bits
-  refit_bits_placed = ap (take 9) (sym (drop-drop 9 3 trial) ∙ ap (drop 9) numbers ∙ drop-drop 9 1 (longs_of l))
+    -- the numbers are the eight-byte fields from the second on
+    numbers : drop 3 trial ≡ drop 1 (longs_of l)
+    unfolding unpacked trial_layout longs_of fields_of parts_of first_parts
+    numbers =
+        let e : length l / 8 ≡ suc (2 * k) = omega (arith, size) in
+        rw e (unpacked_even 8 (2 * k) (drop 6 (drop 1 (drop 1 l))) ∙ ap (λ m. map little_endian (first_parts 8 (2 * k) m)) (ap (drop 6) (drop-drop 1 1 l) ∙ drop-drop 6 2 l))
+
+    pub fit_bits_placed : fit_bits k trial ≡ take k (drop 1 (longs_of l))
+    unfolding fit_bits
+    fit_bits_placed = ap (take k) numbers
+
+    pub refit_bits_placed : refit_bits k trial ≡ take k (drop (1 + k) (longs_of l))
+    unfolding refit_bits
+    refit_bits_placed = ap (take k) (sym (drop-drop k 3 trial) ∙ ap (drop k) numbers ∙ drop-drop k 1 (longs_of l))

@@ -1,71 +1,52 @@
--- The marks of a file: how many there are, which doubles the mark at a place has, and their numbers in the lent list, four places each.
--- Assumes nothing.
-use mathlib.Core.Path.{◌≡◌, refl, sym, ap, ◌∙◌}
+-- The numbers of a file's whole marks: how many there are, and how they come into the lent list, one by one. Assumes nothing.
+use mathlib.Core.Path.{◌≡◌, refl, sym, ◌∙◌}
 use mathlib.Core.List.{List, ◌++◌}
-use Prim.Native.Nat.{ℕ, ◌+◌, ◌-◌, ◌*◌, ◌/◌, ◌≤◌, ◌<◌}
+use Prim.Native.Nat.{ℕ, ◌+◌, ◌*◌, ◌/◌, ◌≤◌, ◌<◌}
+use native.Mathlib.Nat.{mul-div-le}
 use native.Mathlib.Omega.{arith}
-use borrow.Rule.Slice.PartMut.{put_mid}
-use lib.ListN.{length, get_or, take, drop}
+use lib.ListN.{length, get_or, take, drop, set}
+use lib.Seq.{length-take-le, get_or-take}
 use lib.Ieee.{Float, nan}
 use Rattle.rule.specs.Lists.{for_each, filled}
-use Rattle.rule.proofs.Lists.{more, no_room, all-filled, part_replaced}
-use Rattle.sheet.specs.Marks.{mark_at, no_mark, mark_numbers}
-use Rattle.sheet.specs.declared.marks.Mark.{Mark}
-use Rattle.sheet.proofs.Places.{count, read, no_mark_lem}
+use Rattle.rule.proofs.Lists.{alone, stored_no_room, stored_more, stored_all}
 use Rattle.fields.specs.Fields.{doubles_of, double_at}
 use Rattle.fields.proofs.Reading.{doubles_count, double-read}
-use Rattle.records.specs.Marks.{marks_in, numbers_in}
+use Rattle.records.specs.Marks.{numbers_in}
 
-module _ (l : List ℕ) where
-  fours : length (doubles_of l) / 4 ≡ length l / 32
-  fours = rw (doubles_count l) (omega arith)
+module _ (w : ℕ) (l : List ℕ) where
+  -- how many as the code counts them
+  abbrev many : ℕ
+  many = w * (length l / 8 / w)
 
-  pub marks-count : length l / 32 ≡ length (marks_in l)
-  unfolding marks_in
-  marks-count = sym (count (doubles_of l) ∙ fours)
+  few-enough : many ≤ length l / 8
+  few-enough = mul-div-le (length l / 8) w
 
-  pub no_mark_read : (i : ℕ) → length l / 32 ≤ i → get_or (marks_in l) i no_mark ≡ no_mark
-  unfolding marks_in mark_at
-  no_mark_read i h = sym (no_mark_lem (doubles_of l) i (rw fours h))
-
-  module _ (i : ℕ) (inside : i < length l / 32) where
-    at : (k : ℕ) → k < 4 → double_at l (4 * i + k) ≡ get_or (doubles_of l) (4 * i + k) nan
-    at k h = double-read l (4 * i + k) nan (omega arith)
-
-    pub mark_read : get_or (marks_in l) i no_mark ≡ record { x = double_at l (4 * i); y = double_at l (4 * i + 1); u = double_at l (4 * i + 2); v = double_at l (4 * i + 3) }
-    unfolding marks_in mark_at
-    mark_read =
-        rw (double-read l (4 * i) nan (omega arith), at 1 (omega arith), at 2 (omega arith), at 3 (omega arith))
-        (sym (read (doubles_of l) i (rw fours inside)))
-
--- ---- all marks
-
-pub mark_wide : (m : Mark) → length (mark_numbers m) ≡ 4
-unfolding mark_numbers
-mark_wide m = refl
-
-module _ (l : List ℕ) (entry : List Float) where
-  -- the lent list after the first i marks
-  unfoldable pub numbers_after : ℕ → List Float
-  numbers_after i = for_each mark_numbers (take i (marks_in l)) ++ drop (4 * i) entry
-
-  pub numbers_none : numbers_after 0 ≡ entry
-  unfolding numbers_after for_each
-  numbers_none = refl
-
-  pub numbers_no_room : length entry / 4 < length l / 32 → entry ≡ filled (numbers_in l) entry
+  pub numbers_count : many ≡ length (numbers_in w l)
   unfolding numbers_in
-  numbers_no_room h = no_room mark_numbers 4 mark_wide (marks_in l) entry (marks-count l) (omega arith)
+  numbers_count = rw (doubles_count l) (sym (length-take-le many (doubles_of l) (rw (doubles_count l) few-enough)))
 
-  module _ (room : length l / 32 ≤ length entry / 4) where
-    pub numbers_more : (i : ℕ) → i < length l / 32 → numbers_after (i + 1) ≡ put_mid (4 * i) (4 * i + 4 - 4 * i) (numbers_after i) (mark_numbers (get_or (marks_in l) i no_mark))
-    unfolding numbers_after
-    numbers_more i h =
-        let m = get_or (marks_in l) i no_mark in
-        sym
-        (more mark_numbers 4 mark_wide (marks_in l) entry (marks-count l) no_mark h (record { is = refl }) refl
-        (part_replaced (4 * i) (4 * i + 4) (mark_numbers m) (numbers_after i) (ap (λ j. 4 * i + j) (mark_wide m)))).is
+  module _ (entry : List Float) where
+    -- the lent list after the first i numbers
+    unfoldable pub numbers_after : ℕ → List Float
+    numbers_after i = for_each alone (take i (numbers_in w l)) ++ drop (1 * i) entry
 
-    pub numbers_all : (i : ℕ) → i ≡ length l / 32 → numbers_after i ≡ filled (numbers_in l) entry
-    unfolding numbers_in numbers_after
-    numbers_all i h = all-filled mark_numbers 4 mark_wide (marks_in l) entry (marks-count l) (omega (arith, h)) (omega (arith, h)) (omega arith) (record { is = refl })
+    pub numbers_none : numbers_after 0 ≡ entry
+    unfolding numbers_after for_each
+    numbers_none = refl
+
+    pub numbers_no_room : length entry < many → entry ≡ filled (numbers_in w l) entry
+    numbers_no_room h = stored_no_room (numbers_in w l) entry numbers_count h
+
+    module _ (room : many ≤ length entry) where
+      pub numbers_more : (i : ℕ) → i < many → numbers_after (i + 1) ≡ set (numbers_after i) i (double_at l i)
+      unfolding numbers_after numbers_in
+      numbers_more i h =
+          let inside : i < length l / 8 = (let k = few-enough in omega arith) in
+          let at : double_at l i ≡ get_or (numbers_in w l) i nan =
+          double-read l i nan inside ∙ sym (get_or-take (w * (length (doubles_of l) / w)) (doubles_of l) i nan (rw (doubles_count l) h))
+          in
+          sym (stored_more (numbers_in w l) entry numbers_count room nan h at (record { is = refl })).is
+
+      pub numbers_all : (i : ℕ) → i ≡ many → numbers_after i ≡ filled (numbers_in w l) entry
+      unfolding numbers_after
+      numbers_all i h = stored_all (numbers_in w l) entry numbers_count room (omega (arith, h)) (omega (arith, h)) (record { is = refl })

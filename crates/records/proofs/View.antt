@@ -4,7 +4,6 @@ use Rattle.std.specs.Prelude.{Result, Option, Some, None}
 use Rattle.rule.specs.Answer.{told, answered}
 use Rattle.rule.specs.declared.Refusal.{Refusal}
 use Rattle.rule.proofs.Views.{told_one, answered_one}
-use Rattle.sheet.specs.declared.model.Model.{Model}
 use Rattle.book.specs.Score.{Trial, unfitted, fitted, refitted}
 use Rattle.records.specs.Trial.{refitted_by, view_recorded}
 use Rattle.records.specs.declared.options.RansacOptions.{RansacOptions}
@@ -13,19 +12,20 @@ use Rattle.records.specs.declared.trial.Fitted.{Fitted}
 pub options-one : (x y : Result RansacOptions Refusal) → answered x ≡ answered y → x ≡ y
 options-one = answered_one
 
-recorded_of : Trial Model → Option Fitted
-recorded_of unfitted = None
-recorded_of (fitted m) = Some (record { fit = m; refit = None })
-recorded_of (refitted m n) = Some (record { fit = m; refit = Some n })
+module _ {M : Type 0} where
+  recorded_of : Trial M → Option (Fitted M)
+  recorded_of unfitted = None
+  recorded_of (fitted m) = Some (record { fit = m; refit = None })
+  recorded_of (refitted m n) = Some (record { fit = m; refit = Some n })
 
-recorded_back : (x : Option Fitted) → recorded_of (view_recorded x) ≡ x
-unfolding recorded_of
-recorded_back None = refl
-recorded_back (Some t) = go t.refit
-  where
-    go : (r : Option Model) → recorded_of (refitted_by t.fit r) ≡ Some (record { fit = t.fit; refit = r })
-    go None = refl
-    go (Some n) = refl
+  recorded_back : (x : Option (Fitted M)) → recorded_of (view_recorded x) ≡ x
+  unfolding recorded_of
+  recorded_back None = refl
+  recorded_back (Some t) = go t.refit
+    where
+      go : (r : Option M) → recorded_of (refitted_by t.fit r) ≡ Some (record { fit = t.fit; refit = r })
+      go None = refl
+      go (Some n) = refl
 
-pub recorded_one : (x y : Result (Option Fitted) Refusal) → told view_recorded x ≡ told view_recorded y → x ≡ y
-recorded_one = told_one view_recorded recorded_of recorded_back
+  pub recorded_one : (x y : Result (Option (Fitted M)) Refusal) → told view_recorded x ≡ told view_recorded y → x ≡ y
+  recorded_one = told_one view_recorded recorded_of recorded_back

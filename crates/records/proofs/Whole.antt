@@ -1,30 +1,24 @@
--- A file of whole marks: its numbers are all its doubles. Assumes nothing.
-use mathlib.Core.Path.{◌≡◌, refl, ap, ◌∙◌}
-use mathlib.Core.List.{List, [], ◌∷◌}
+-- The numbers of a file's whole marks: how many there are, and that a file of whole marks has no others. Assumes nothing.
+use mathlib.Core.Path.{◌≡◌, sym, ap, ◌∙◌}
+use mathlib.Core.List.{List}
 use Prim.Native.Nat.{ℕ, ◌*◌, ◌/◌, ◌%◌}
+use native.Mathlib.Nat.{div-add-mod, div-div-eq-div-mul}
 use native.Mathlib.Omega.{arith}
-use lib.ListN.{length}
-use lib.Ieee.{Float}
-use Rattle.rule.specs.Lists.{for_each}
-use Rattle.rule.proofs.Lists.{for_each-length}
-use Rattle.sheet.specs.Marks.{marks_of, mark_numbers}
+use lib.ListN.{length, take}
+use lib.Seq.{take-length}
 use Rattle.fields.specs.Fields.{doubles_of}
 use Rattle.fields.proofs.Reading.{doubles_count}
-use Rattle.records.specs.Marks.{marks_in, numbers_in}
-use Rattle.records.proofs.Reading.{mark_wide, marks-count}
+use Rattle.records.specs.Marks.{numbers_in}
+use Rattle.records.proofs.Reading.{numbers_count}
 
-marks_back : (xs : List Float) → length xs % 4 ≡ 0 → for_each mark_numbers (marks_of xs) ≡ xs
-unfolding for_each mark_numbers marks_of
-marks_back [] h = refl
-marks_back (x ∷ []) h = absurd (omega (arith, h))
-marks_back (x ∷ y ∷ []) h = absurd (omega (arith, h))
-marks_back (x ∷ y ∷ u ∷ []) h = absurd (omega (arith, h))
-marks_back (x ∷ y ∷ u ∷ v ∷ rest) h = ap (λ t. x ∷ y ∷ u ∷ v ∷ t) (marks_back rest (omega (arith, h)))
+module _ (w : ℕ) (l : List ℕ) where
+  -- 8 * w bytes a mark
+  pub numbers-length : length (numbers_in w l) ≡ w * (length l / (8 * w))
+  numbers-length = sym (numbers_count w l) ∙ ap (λ n. w * n) (div-div-eq-div-mul (length l) 8 w)
 
-pub numbers-whole : (l : List ℕ) → length l % 32 ≡ 0 → numbers_in l ≡ doubles_of l
-unfolding numbers_in marks_in
-numbers-whole l h = marks_back (doubles_of l) (rw (doubles_count l) (omega arith))
-
-pub numbers-length : (l : List ℕ) → length (numbers_in l) ≡ 4 * (length l / 32)
-unfolding numbers_in
-numbers-length l = for_each-length mark_numbers 4 mark_wide (marks_in l) ∙ rw (marks-count l)
+  pub numbers-whole : length l % (8 * w) ≡ 0 → numbers_in w l ≡ doubles_of l
+  unfolding numbers_in
+  numbers-whole h =
+      let e : w * (length l / (8 * w)) ≡ length l / 8 = omega (arith, div-add-mod (length l) (8 * w), h) in
+      let all : w * (length (doubles_of l) / w) ≡ length (doubles_of l) = rw (doubles_count l, div-div-eq-div-mul (length l) 8 w) e in
+      ap (λ n. take n (doubles_of l)) all ∙ take-length (doubles_of l)

@@ -1,14 +1,13 @@
--- Document 01, 'Marks' and 'Stops': the files that the camera and the host write, as bytes. 32 bytes a mark, 4 bytes a stop entry.
-use Rattle.std.specs.Prelude.{List, ℕ, Float}
-use Rattle.rule.specs.Lists.{for_each}
-use Rattle.sheet.specs.Marks.{marks_of, mark_numbers}
-use Rattle.sheet.specs.declared.marks.Mark.{Mark}
+-- Document 01, 'Marks', and document 02, order 5: the file that the camera writes, as bytes. 8 bytes a number, and as many numbers a mark as the family's
+-- marks have: 32 bytes a mark of a sheet, 40 of a form.
+use Rattle.std.specs.Prelude.{List, ℕ, ◌*◌, ◌/◌, length, take, Float}
 use Rattle.fields.specs.Fields.{doubles_of}
+use Rattle.estimator.specs.Family.{Family}
 
--- the marks of a file; what is left over at the end is no mark
-unfoldable pub marks_in : List ℕ → List Mark
-marks_in l = marks_of (doubles_of l)
+-- the numbers of the whole marks of a file, w a mark; what is left over at the end is no mark
+unfoldable pub numbers_in : (w : ℕ) → List ℕ → List Float
+numbers_in w l = take (w * (length (doubles_of l) / w)) (doubles_of l)
 
--- their numbers, four a mark
-unfoldable pub numbers_in : List ℕ → List Float
-numbers_in l = for_each mark_numbers (marks_in l)
+-- those marks
+unfoldable pub marks_in : {E M K : Type 0} → Family E M K → List ℕ → List K
+marks_in f l = f.marks_of (doubles_of l)

@@ -6,6 +6,6 @@ mod marks;
 mod options;
 mod trial;
 
-pub use marks::{read_mark, read_marks};
+pub use marks::read_marks;
 pub use options::{RansacOptions, marked, read_options, validate};
 pub use trial::{Fitted, marks_formed, parts_formed, read_trial};

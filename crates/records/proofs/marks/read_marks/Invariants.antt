@@ -4,4 +4,4 @@ use Rattle.records.proofs.Reading.{numbers_after}
 use Rattle.records.proofs.marks.read_marks.Given as goal
 
 abbrev pub invariant-loop-i : goal.invariant-loop-i
-invariant-loop-i l = l.numbers ≡ numbers_after l.bytes l.initial.numbers l.i
+invariant-loop-i g l = l.numbers ≡ numbers_after g.E.Estimator.WIDTH l.bytes l.initial.numbers l.i
