@@ -1,14 +1,13 @@
 -- The rows of the marks in the lent list, eighteen places each. Assumes nothing.
-use mathlib.Core.Path.{◌≡◌, refl, sym, ap, ◌∙◌}
+use mathlib.Core.Path.{◌≡◌, refl, ap, ◌∙◌}
 use mathlib.Core.List.{List, [], ◌∷◌, ◌++◌}
 use Prim.Native.Nat.{ℕ, zero, suc, ◌+◌, ◌-◌, ◌*◌, ◌≤◌, ◌<◌}
 use native.Mathlib.Omega.{arith}
 use borrow.Rule.Slice.PartMut.{put_mid}
-use lib.ListN.{length, set, replicate, take, drop}
-use lib.Seq.{take-length}
+use lib.ListN.{length, set, replicate}
 use lib.Ieee.{Float}
-use Rattle.rule.specs.Lists.{for_each, replaced}
-use Rattle.rule.proofs.Lists.{Written, none, more, part_replaced, replaced_twice}
+use Rattle.rule.specs.Lists.{replaced}
+use Rattle.rule.proofs.Lists.{part_replaced, replaced_twice}
 use Rattle.numbers.specs.Constants.{zero'}
 use Rattle.sheet.specs.Marks.{marks_of, mark_at, point_of, no_mark}
 use Rattle.sheet.specs.declared.marks.Mark.{Mark}
@@ -16,6 +15,7 @@ use Rattle.sheet.specs.declared.marks.Point.{Point}
 use Rattle.sheet.specs.declared.marks.Side.TheVariants.{Sheet, Pixel}
 use Rattle.linalg.specs.Normalize.{normalized_by}
 use Rattle.linalg.specs.declared.Change.{Change}
+use Rattle.linalg.proofs.Writing as Writing
 use Rattle.homography.specs.Rows.{row_at, u_row, v_row, mark_rows, rows_list}
 
 -- ---- one row: zeros, then three places from `at` on, then the last three
@@ -76,31 +76,20 @@ unfolding mark_rows u_row v_row
 rows_wide sheet pixel m = refl
 
 -- the lent list after the rows of the first i marks
-unfoldable pub written : Change → Change → List Float → List Float → ℕ → List Float
-written sheet pixel l entry i = for_each (mark_rows sheet pixel) (take i (marks_of l)) ++ drop (18 * i) entry
+abbrev pub written : Change → Change → List Float → List Float → ℕ → List Float
+written sheet pixel l entry i = Writing.written (mark_rows sheet pixel) 18 (marks_of l) entry i
 
 module _ (sheet pixel : Change) (l entry : List Float) where
-  abbrev Rows : ℕ → List Float → Type 0
-  Rows i s = Written (mark_rows sheet pixel) 18 (rows_wide sheet pixel) (marks_of l) entry i s
-
-  so_far : (i : ℕ) → Rows i (written sheet pixel l entry i)
-  unfolding written
-  so_far i = record { is = refl }
-
-  is : (i : ℕ) (s : List Float) → Rows i s → written sheet pixel l entry i ≡ s
-  unfolding written
-  is i s k = sym k.is
-
   pub written_none : written sheet pixel l entry 0 ≡ entry
-  written_none = is 0 entry (none (mark_rows sheet pixel) 18 (rows_wide sheet pixel) (marks_of l) entry)
+  written_none = Writing.written_none (mark_rows sheet pixel) 18 (marks_of l) entry (rows_wide sheet pixel)
 
   pub written_more : (i : ℕ) → i < length (marks_of l)
       → let p = normalized_by sheet (point_of Sheet (mark_at l i)) in
       let q = normalized_by pixel (point_of Pixel (mark_at l i)) in
       written sheet pixel l entry (i + 1) ≡ replaced (18 * i) (u_row p q.x ++ v_row p q.y) (written sheet pixel l entry i)
   unfolding mark_rows mark_at
-  written_more i h = is (i + 1) _ (more (mark_rows sheet pixel) 18 (rows_wide sheet pixel) (marks_of l) entry refl no_mark h (so_far i) refl refl)
+  written_more = Writing.written_more (mark_rows sheet pixel) 18 (marks_of l) entry (rows_wide sheet pixel) no_mark (mark_at l) (λ i. refl)
 
   pub written_all : rows_list sheet pixel l entry ≡ written sheet pixel l entry (length (marks_of l))
-  unfolding rows_list written
-  written_all = rw (take-length (marks_of l))
+  unfolding rows_list
+  written_all = Writing.written_all (mark_rows sheet pixel) 18 (marks_of l) entry

@@ -1,3 +1,4 @@
 pub mod Sums
 pub mod Changes
 pub mod Writing
+pub mod Sides

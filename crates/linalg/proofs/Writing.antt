@@ -1,56 +1,42 @@
--- The normalised points in the lent list, two places each. Assumes nothing.
-use Rattle.std.proofs.Common.{◌≡◌, ℕ, ◌+◌, ◌*◌, ◌<◌, ◌≤◌, List, length, set, take, drop, append_assoc, sym, refl, ◌∙◌, add-one, ◌++◌, arith}
+-- What is written for each element of a list, from the front of a lent list on, w places each. Assumes nothing.
+use Rattle.std.proofs.Common.{◌≡◌, ℕ, ◌+◌, ◌*◌, ◌<◌, ◌≤◌, List, length, get_or, take, drop, append_assoc, sym, refl, ◌∙◌, ◌++◌}
 use native.Mathlib.Nat.{le_of_lt}
-use lib.Seq.{sets-eq, take-length}
-use lib.Ieee.{Float}
+use lib.Seq.{sets, sets-eq, take-length}
 use Rattle.rule.specs.Lists.{for_each, replaced}
 use Rattle.rule.proofs.Lists.{Written, none, same, more}
-use Rattle.sheet.specs.Marks.{points, point_at}
-use Rattle.sheet.specs.declared.marks.Point.{Point}
-use Rattle.sheet.specs.declared.marks.Side.{Side}
-use Rattle.sheet.proofs.Places.{no_point, point-read}
-use Rattle.linalg.specs.Normalize.{normalized_by, pair_of, normalized_list}
-use Rattle.linalg.specs.declared.Change.{Change}
 
-abbrev pair : Change → Point → List Float
-pair c p = pair_of (normalized_by c p)
+-- stored one after the other, from place k on
+pub stored : {B : Type 0} (xs s : List B) (k : ℕ) → k + length xs ≤ length s → sets s k xs ≡ replaced k xs s
+unfolding replaced
+stored xs s k h = sets-eq xs s k h ∙ append_assoc (take k s) xs (drop (k + length xs) s)
 
-pair_wide : (c : Change) (p : Point) → length (pair c p) ≡ 2
-unfolding pair_of
-pair_wide c p = refl
+module _ {A B : Type 0} (write : A → List B) (w : ℕ) (l : List A) (entry : List B) where
+  -- the lent list after the first i elements
+  unfoldable pub written : ℕ → List B
+  written i = for_each write (take i l) ++ drop (w * i) entry
 
-stored : (k : ℕ) (p : Point) (s : List Float) → k + 2 ≤ length s → set (set s k p.x) (k + 1) p.y ≡ replaced k (pair_of p) s
-unfolding pair_of replaced
-stored k p s h = rw (add-one k) (sets-eq (pair_of p) s k h ∙ append_assoc (take k s) (pair_of p) (drop (k + 2) s))
-
--- the lent list after the first i points
-unfoldable pub written : Change → Side → List Float → List Float → ℕ → List Float
-written change side l entry i = for_each (pair change) (take i (points side l)) ++ drop (2 * i) entry
-
-module _ (change : Change) (side : Side) (l entry : List Float) where
-  abbrev Points : ℕ → List Float → Type 0
-  Points i s = Written (pair change) 2 (pair_wide change) (points side l) entry i s
-
-  so_far : (i : ℕ) → Points i (written change side l entry i)
+  pub written_all : for_each write l ++ drop (w * length l) entry ≡ written (length l)
   unfolding written
-  so_far i = record { is = refl }
+  written_all = rw (take-length l)
 
-  is : (i : ℕ) (s : List Float) → Points i s → written change side l entry i ≡ s
-  unfolding written
-  is i s k = sym k.is
+  module _ (wide : (a : A) → length (write a) ≡ w) where
+    abbrev So : ℕ → List B → Type 0
+    So i s = Written write w wide l entry i s
 
-  pub written_none : written change side l entry 0 ≡ entry
-  written_none = is 0 entry (none (pair change) 2 (pair_wide change) (points side l) entry)
+    so_far : (i : ℕ) → So i (written i)
+    unfolding written
+    so_far i = record { is = refl }
 
-  pub written_more : (i : ℕ) → i < length (points side l) → 2 * length (points side l) ≤ length entry
-      → let p = normalized_by change (point_at side l i) in
-      written change side l entry (i + 1) ≡ set (set (written change side l entry i) (2 * i) p.x) (2 * i + 1) p.y
-  written_more i h room =
-      let long : length (written change side l entry i) ≡ length entry = same (pair change) 2 (pair_wide change) (points side l) entry refl (le_of_lt h) room (so_far i) in
-      is (i + 1) _
-      (more (pair change) 2 (pair_wide change) (points side l) entry refl (no_point side) h (so_far i) (sym (point-read side l i))
-      (stored (2 * i) (normalized_by change (point_at side l i)) (written change side l entry i) (omega (arith, long, room, h))))
+    is : (i : ℕ) {s : List B} → So i s → written i ≡ s
+    unfolding written
+    is i k = sym k.is
 
-  pub written_all : normalized_list change (points side l) entry ≡ written change side l entry (length (points side l))
-  unfolding normalized_list written
-  written_all = rw (take-length (points side l))
+    pub written_none : written 0 ≡ entry
+    written_none = is 0 (none write w wide l entry)
+
+    pub written_long : (i : ℕ) → i < length l → w * length l ≤ length entry → length (written i) ≡ length entry
+    written_long i h room = same write w wide l entry refl (le_of_lt h) room (so_far i)
+
+    -- element i, by whatever reads it
+    pub written_more : (d : A) (at : ℕ → A) → ((i : ℕ) → get_or l i d ≡ at i) → (i : ℕ) → i < length l → written (i + 1) ≡ replaced (w * i) (write (at i)) (written i)
+    written_more d at read i h = is (i + 1) (more write w wide l entry refl d h (so_far i) (sym (read i)) refl)

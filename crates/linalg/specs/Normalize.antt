@@ -1,27 +1,23 @@
 -- Document 01, 'Normalising', of the points of one side: centroid, mean distance, scale, and the matrix of the change.
-use Rattle.std.specs.Prelude.{◌≡◌, ℕ, ◌*◌, Bool, ◌||◌, cond, List, [], ◌∷◌, ◌++◌, length, drop, pos, ◌==◌, Option, Some, None, Result, Float}
-use Rattle.std.specs.Float.{binary64}
-use Rattle.std.specs.Float.Ieee.{of_int, neg, le}
+use Rattle.std.specs.Prelude.{◌≡◌, ℕ, ◌*◌, Bool, ◌||◌, cond, List, [], ◌∷◌, ◌++◌, length, drop, ◌==◌, Option, Some, None, Result, Float}
+use Rattle.std.specs.Float.Ieee.{neg, le}
 use Rattle.rule.specs.declared.Refusal.{Refusal}
 use Rattle.rule.specs.Refusal.{SPREAD}
 use Rattle.rule.specs.Answer.{Answer, answered}
 use Rattle.rule.specs.Order.{Test, first_failed, decided, if_passed, room}
 use Rattle.rule.specs.Arith.{◌⊖◌, ◌⊗◌, ◌⊘◌}
-use Rattle.rule.specs.Lists.{sum_from, for_each}
+use Rattle.rule.specs.Lists.{for_each}
 use Rattle.root.specs.Root.{root_of}
 use Rattle.numbers.specs.Constants.{zero', one, two, epsilon}
 use Rattle.estimator.specs.Marks.{marks_tests}
-use Rattle.sheet.specs.Marks.{points, squared_apart}
+use Rattle.sheet.specs.Marks.{points, point_at, squared_apart}
 use Rattle.sheet.specs.declared.marks.Point.{Point}
 use Rattle.sheet.specs.declared.marks.Side.{Side}
 use Rattle.sheet.specs.Sheets.{sheet}
+use Rattle.linalg.specs.Mean.{mean}
 use Rattle.linalg.specs.declared.Row.{Row}
 use Rattle.linalg.specs.declared.Change.{Change}
 use Rattle.linalg.specs.declared.Normalized.{Normalized}
-
--- the sum, in index order from 0, over the number of points
-unfoldable pub mean : (Point → Float) → List Point → Float
-mean term ps = sum_from term zero' ps ⊘ of_int binary64 (pos (length ps))
 
 unfoldable pub centroid_of : List Point → Point
 centroid_of ps = record { x = mean (λ p. p.x) ps; y = mean (λ p. p.y) ps }
@@ -29,6 +25,10 @@ centroid_of ps = record { x = mean (λ p. p.x) ps; y = mean (λ p. p.y) ps }
 -- the mean of square roots of dx·dx + dy·dy
 unfoldable pub mean_distance : Point → List Point → Float
 mean_distance centre ps = mean (λ p. root_of (squared_apart p centre)) ps
+
+-- the square of it, by the point's place in a list of marks
+unfoldable pub square_at : Point → Side → List Float → ℕ → Float
+square_at centre side l i = squared_apart (point_at side l i) centre
 
 -- no points, or a mean distance of at most 2^-52
 unfoldable pub no_spread : List Point → Bool

@@ -2,10 +2,13 @@
 // linalg.rs): the centroid goes to the origin and the mean distance from it to the root of 2.
 #![tactic(auto)]
 
+mod means;
+
 ghost use Rattle.std.specs.Prelude.{◌≡◌, ◌*◌, ◌≤◌, length};
 ghost use Rattle.sheet.specs.Marks.{points as points_of};
-ghost use Rattle.linalg.specs.Normalize.{centroid_of, mean_distance, change_of, normalized_by, matrix_of, normalized_list, Normalizing};
+ghost use Rattle.linalg.specs.Normalize.{centroid_of, mean_distance, square_at, change_of, normalized_by, matrix_of, normalized_list, Normalizing};
 
+pub use means::{Squares, mean_root};
 use rule::Refusal;
 use sheet::{Point, Points, Sheet};
 use std::f64::consts::SQRT_2;
@@ -29,7 +32,7 @@ pub struct Normalized {
     pub matrix: [Row; 3],
 }
 
-#[tactic(auto, unfolding(crate::specs::Normalize::centroid_of), using(crate::proofs::Sums::sum_none, crate::proofs::Sums::sum_more, crate::proofs::Sums::mean_is))]
+#[tactic(auto, unfolding(crate::specs::Normalize::centroid_of), using(crate::proofs::Sides::sum_none, crate::proofs::Sides::sum_more, crate::proofs::Sides::mean_is))]
 pub fn centroid(points: Points) -> Point
     ensures { result ≡ centroid_of (points_of points.entry.side points.entry.marks.now) }
 {
@@ -47,27 +50,33 @@ pub fn centroid(points: Points) -> Point
     }
 }
 
-// The points go in twos, and the last of an odd number by itself: two roots together take less time than
-// one after the other (`sqrt_two`).
-#[tactic(auto, using(crate::proofs::Sums::two_none, crate::proofs::Sums::two_more, crate::proofs::Sums::distance_even, crate::proofs::Sums::distance_odd))]
+// The squares of the points' distances from a centre.
+#[derive(Clone, Copy)]
+struct FromCentre<'a> {
+    points: Points<'a>,
+    centre: Point,
+}
+
+impl<'a> Squares for FromCentre<'a> {
+    ghost count = { λ s. length (points_of s.points.side s.points.marks.now) };
+
+    ghost square = { λ s. square_at s.centre s.points.side s.points.marks.now };
+
+    fn len(self) -> usize {
+        self.points.len()
+    }
+
+    #[tactic(auto, unfolding(crate::specs::Normalize::square_at))]
+    fn at(self, i: usize) -> f64 {
+        sheet::squared_apart(self.points.at(i), self.centre)
+    }
+}
+
+#[tactic(auto, using(crate::proofs::Sides::distance_is))]
 pub fn mean_distance(points: Points, centre: Point) -> f64
     ensures { result ≡ mean_distance centre (points_of points.entry.side points.entry.marks.now) }
 {
-    let n = points.len();
-    let count = std::num::nearest_usize_to_f64(n);
-    let mut sum = 0.0;
-    for i in 0..n / 2 {
-        let (first, second) = root::sqrt_two(
-            sheet::squared_apart(points.at(2 * i), centre),
-            sheet::squared_apart(points.at(2 * i + 1), centre),
-        );
-        sum = sum + first + second;
-    }
-    if n % 2 == 1 {
-        let last = root::sqrt(sheet::squared_apart(points.at(n - 1), centre));
-        return (sum + last) / count;
-    }
-    sum / count
+    mean_root(FromCentre { points, centre })
 }
 
 // The change that normalises one side; none where the points have no spread.
@@ -115,7 +124,7 @@ fn matrix_of(change: Change) -> [Row; 3]
 }
 
 // Every point of the side, normalised, into its own two places.
-#[tactic(auto, using(crate::proofs::Writing::written_none, crate::proofs::Writing::written_more, crate::proofs::Writing::written_all))]
+#[tactic(auto, using(crate::proofs::Sides::written_none, crate::proofs::Sides::written_more, crate::proofs::Sides::written_all))]
 fn write_points(points: Points, change: Change, lent: &mut [f64])
     requires { 2 * length (points_of points.side points.marks.now) ≤ length lent.old }
     ensures { lent.new

@@ -1,6 +1,6 @@
 -- `linalg::centroid` meets its contract. Assumes nothing.
 use Rattle.std.proofs.Common.{◌≡◌}
-use Rattle.linalg.proofs.Sums.{sum_of}
+use Rattle.linalg.proofs.Sides.{sum_of}
 use Rattle.linalg.proofs.centroid.Given as goal
 
 abbrev pub invariant-loop-i : goal.invariant-loop-i

@@ -1,6 +1,6 @@
 -- `linalg::write_points` meets its contract. Assumes nothing.
 use Rattle.std.proofs.Common.{◌≡◌}
-use Rattle.linalg.proofs.Writing.{written}
+use Rattle.linalg.proofs.Sides.{written}
 use Rattle.linalg.proofs.write_points.Given as goal
 
 abbrev pub invariant-loop-i : goal.invariant-loop-i
