@@ -2,7 +2,7 @@
 use mathlib.Core.Path.{◌≡◌, refl, sym, ap, ◌∙◌}
 use mathlib.Core.Bool.{Bool, true, false, cond}
 use mathlib.Core.List.{List, map}
-use Prim.Native.Nat.{ℕ, zero, suc, ◌/◌, ◌≤◌}
+use Prim.Native.Nat.{ℕ, zero, suc, ◌≤◌}
 use native.Mathlib.Omega.{arith}
 use lib.Dec.{ltb}
 use lib.ListN.{length, take}
@@ -22,7 +22,6 @@ use Rattle.judge.specs.Judging.{rule_of, Call, tested_marks, tested_tests, worth
 use Rattle.judge.specs.declared.Support.{Support}
 use Rattle.judge.specs.declared.Verdict.{Verdict}
 use Rattle.judge.specs.declared.Verdict.TheVariants.{Scored}
-use Rattle.estimator.proofs.Tests.{few_marks}
 use Rattle.judge.proofs.Ways.{run_passed}
 use Rattle.judge.proofs.Measured.{roots_stored}
 
@@ -77,7 +76,7 @@ record Leaves {E M K : Type 0} (f : Family E M K) (e : E) (o : RansacOptions) (n
   counted : count ≡ count_in o.thresh (distances_of f e o.ratio l m)
   roots : map root_of (take n s) ≡ distances_of f e o.ratio l m
 
-module _ {E M K : Type 0} (f : Family E M K) (e : E) (few_of : (l : List Float) → length l ≤ 8000 → length (f.marks_of l) ≤ 2000) (o : RansacOptions) (n : ℕ) (c : Call) (entry : List Float) where
+module _ {E M K : Type 0} (f : Family E M K) (e : E) (o : RansacOptions) (n : ℕ) (c : Call) (small : n ≤ 2000) (entry : List Float) where
   abbrev failed : ℕ
   failed = first_failed (tested_tests f n c)
 
@@ -88,7 +87,6 @@ module _ {E M K : Type 0} (f : Family E M K) (e : E) (few_of : (l : List Float) 
       let p = found.0 in
       let is = sym found.1 in
       let run = run_passed f n c.marks _ p in
-      let k = few_of c.marks run.1 in
       let stays : s ≡ filled (squares_of f e o.ratio c.marks t.model) entry =
       left
       ∙ sym (done (squares_after f e o c.marks c.stops (trial_of f c.bytes) entry) entry (sym p))
@@ -96,20 +94,20 @@ module _ {E M K : Type 0} (f : Family E M K) (e : E) (few_of : (l : List Float) 
       ∙ ap (λ j. filled (squares_of f e o.ratio c.marks (model_in t.model j)) entry) (sym is) in
       record {
         counted = (judge_own (rule_of o) (distances_of f e o.ratio c.marks) c.stops (trial_of f c.bytes) t (sym is)).0;
-        roots = rw (run.0, stays) (roots_stored f e o.ratio c.marks t.model entry (let long = ap length stays ∙ filled-length (squares_of f e o.ratio c.marks t.model) entry in omega (arith, k, room, long)));
+        roots = rw (run.0, stays) (roots_stored f e o.ratio c.marks t.model entry (let long = ap length stays ∙ filled-length (squares_of f e o.ratio c.marks t.model) entry in let k = run.0 in omega (arith, k, small, room, long)));
       }
 
 -- ---- with the root mean square
 
-module _ {E M K : Type 0} (f : Family E M K) (e : E) (w : ℕ) (wide : 4 ≤ w) (counts : (l : List Float) → length (f.marks_of l) ≡ length l / w)
-    (o : RansacOptions) (n : ℕ) (c : Call) {v : Verdict (Support M)} (found : judged_as (supported (rms_under f e o c.marks)) v ≡ judge_tested f e o n c) {s : Support M} (is : v ≡ Scored s)
+module _ {E M K : Type 0} (f : Family E M K) (e : E)
+    (o : RansacOptions) (n : ℕ) (c : Call) (small : n ≤ 2000) {v : Verdict (Support M)} (found : judged_as (supported (rms_under f e o c.marks)) v ≡ judge_tested f e o n c) {s : Support M} (is : v ≡ Scored s)
     (entry : List Float) {left : List Float} (leaves : left ≡ squares_left f e o n c entry) (room : 2000 ≤ length left)
   where
     support_is : scored (supported (rms_under f e o c.marks) s) ≡ judge_tested f e o n c
     support_is = ap (judged_as (supported (rms_under f e o c.marks))) (sym is) ∙ found
 
     support_leaves : Leaves f e o n c.marks s.model s.count left
-    support_leaves = scored-leaves f e (few_marks f w wide counts) o n c entry _ support_is leaves room
+    support_leaves = scored-leaves f e o n c small entry _ support_is leaves room
 
     pub support_scored : scored (support_with o.thresh (take n left) s) ≡ judge_tested f e o n c
     unfolding support_with rms_under rms_in

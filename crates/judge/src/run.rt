@@ -12,7 +12,7 @@ use records::{Fitted, RansacOptions};
 
 // The options, and marks and stop entries that have passed a call's tests: few enough marks for a list of
 // squares.
-#[derive(Clone, Copy)]
+#[derive(Drop)]
 pub(crate) struct Run<'a, E> {
     pub estimator: E,
     pub options: RansacOptions,
@@ -31,8 +31,8 @@ struct Counted {
 impl<'a, E: Estimator> Run<'a, E> {
     // max_iters at count 0, else the entry of the count.
     #[tactic(auto, unfolding(book::specs::Score::stop_at, crate::specs::Judging::rule_of))]
-    fn stop_at(self, count: u32) -> u32
-        ensures { result ≡ stop_at (rule_of self.entry.options) (distances_of E.family self.entry.estimator self.entry.options.ratio self.entry.marks.now) self.entry.stops.now count }
+    fn stop_at(&self, count: u32) -> u32
+        ensures { result ≡ stop_at (rule_of self.now.options) (distances_of E.family self.now.estimator self.now.options.ratio self.now.marks.now) self.now.stops.now count }
     {
         if count == 0 {
             return self.options.max_iters;
@@ -41,8 +41,8 @@ impl<'a, E: Estimator> Run<'a, E> {
     }
 
     // A model and its count.
-    fn support(self, model: E::Model, count: u32) -> Support<E::Model>
-        ensures { result ≡ record { model = model; count = count; stop = stop_at (rule_of self.entry.options) (distances_of E.family self.entry.estimator self.entry.options.ratio self.entry.marks.now) self.entry.stops.now count } }
+    fn support(&self, model: E::Model, count: u32) -> Support<E::Model>
+        ensures { result ≡ record { model = model; count = count; stop = stop_at (rule_of self.now.options) (distances_of E.family self.now.estimator self.now.options.ratio self.now.marks.now) self.now.stops.now count } }
     {
         Support {
             model,
@@ -53,10 +53,10 @@ impl<'a, E: Estimator> Run<'a, E> {
 
     // Measures a model, and counts the marks that are within the threshold under it and those beyond.
     #[tactic(auto, using(crate::proofs::Measured::counts), unfolding(book::specs::Score::count_under, crate::specs::Judging::rule_of))]
-    fn count_under(self, h: E::Model, squares: &mut [f64; 2000]) -> Counted
-        ensures within_value { result.within ≡ count_under (rule_of self.entry.options) (distances_of E.family self.entry.estimator self.entry.options.ratio self.entry.marks.now) self.entry.stops.now h }
-        ensures beyond_value { result.beyond ≡ beyond_of E.family self.entry.estimator self.entry.marks.now h }
-        ensures squares_after { squares.new ≡ filled (squares_of E.family self.entry.estimator self.entry.options.ratio self.entry.marks.now h) squares.old }
+    fn count_under(&self, h: E::Model, squares: &mut [f64; 2000]) -> Counted
+        ensures within_value { result.within ≡ count_under (rule_of self.now.options) (distances_of E.family self.now.estimator self.now.options.ratio self.now.marks.now) self.now.stops.now h }
+        ensures beyond_value { result.beyond ≡ beyond_of E.family self.now.estimator self.now.marks.now h }
+        ensures squares_after { squares.new ≡ filled (squares_of E.family self.now.estimator self.now.options.ratio self.now.marks.now h) squares.old }
     {
         let o = self.options;
         let beyond = measure::squared_residuals(self.estimator, h, o.ratio, self.marks, squares);
@@ -70,10 +70,14 @@ impl<'a, E: Estimator> Run<'a, E> {
 
     // Judges a trial but for the root mean square.
     #[tactic(auto, unfolding(book::specs::Score::judge_trial, book::specs::Score::beyond_fit, crate::specs::Judging::squares_after))]
-    pub fn judge_trial(self, trial: Option<Fitted<E::Model>>, squares: &mut [f64; 2000]) -> Judgement<Support<E::Model>>
-        ensures verdict_value { judged_as (supported (rms_under E.family self.entry.estimator self.entry.options self.entry.marks.now)) result.verdict ≡ judge_trial (rule_of self.entry.options) (distances_of E.family self.entry.estimator self.entry.options.ratio self.entry.marks.now) self.entry.stops.now (view_recorded trial) }
-        ensures beyond_value { result.beyond ≡ beyond_fit (beyond_of E.family self.entry.estimator self.entry.marks.now) (view_recorded trial) }
-        ensures squares_after { squares.new ≡ squares_after E.family self.entry.estimator self.entry.options self.entry.marks.now self.entry.stops.now (view_recorded trial) squares.old }
+    pub fn judge_trial(
+        &self,
+        trial: Option<Fitted<E::Model>>,
+        squares: &mut [f64; 2000],
+    ) -> Judgement<Support<E::Model>>
+        ensures verdict_value { judged_as (supported (rms_under E.family self.now.estimator self.now.options self.now.marks.now)) result.verdict ≡ judge_trial (rule_of self.now.options) (distances_of E.family self.now.estimator self.now.options.ratio self.now.marks.now) self.now.stops.now (view_recorded trial) }
+        ensures beyond_value { result.beyond ≡ beyond_fit (beyond_of E.family self.now.estimator self.now.marks.now) (view_recorded trial) }
+        ensures squares_after { squares.new ≡ squares_after E.family self.now.estimator self.now.options self.now.marks.now self.now.stops.now (view_recorded trial) squares.old }
     {
         match trial {
             None => Judgement {
@@ -90,14 +94,14 @@ impl<'a, E: Estimator> Run<'a, E> {
     // the fit, whichever stands.
     #[tactic(auto, using(crate::proofs::Measured::measured_twice), unfolding(book::specs::Score::judge_trial, book::specs::Score::judged_by, book::specs::Score::stands_of, book::specs::Score::standing, book::specs::Score::count_under, book::specs::Score::beyond_fit, crate::specs::Judging::rule_of, crate::specs::Judging::rms_under, crate::specs::Judging::squares_after))]
     fn judge_fit(
-        self,
+        &self,
         fit: E::Model,
         refit: Option<E::Model>,
         squares: &mut [f64; 2000],
     ) -> Judgement<Support<E::Model>>
-        ensures verdict_value { judged_as (supported (rms_under E.family self.entry.estimator self.entry.options self.entry.marks.now)) result.verdict ≡ judge_trial (rule_of self.entry.options) (distances_of E.family self.entry.estimator self.entry.options.ratio self.entry.marks.now) self.entry.stops.now (refitted_by fit refit) }
-        ensures beyond_value { result.beyond ≡ beyond_fit (beyond_of E.family self.entry.estimator self.entry.marks.now) (refitted_by fit refit) }
-        ensures squares_after { squares.new ≡ squares_after E.family self.entry.estimator self.entry.options self.entry.marks.now self.entry.stops.now (refitted_by fit refit) squares.old }
+        ensures verdict_value { judged_as (supported (rms_under E.family self.now.estimator self.now.options self.now.marks.now)) result.verdict ≡ judge_trial (rule_of self.now.options) (distances_of E.family self.now.estimator self.now.options.ratio self.now.marks.now) self.now.stops.now (refitted_by fit refit) }
+        ensures beyond_value { result.beyond ≡ beyond_fit (beyond_of E.family self.now.estimator self.now.marks.now) (refitted_by fit refit) }
+        ensures squares_after { squares.new ≡ squares_after E.family self.now.estimator self.now.options self.now.marks.now self.now.stops.now (refitted_by fit refit) squares.old }
     {
         let least = self.options.min_inliers;
         let first = self.count_under(fit, squares);
@@ -120,7 +124,13 @@ impl<'a, E: Estimator> Run<'a, E> {
         }
         let again = self.count_under(refit, squares);
         if again.within < least {
-            measure::squared_residuals(self.estimator, fit, self.options.ratio, self.marks, squares);
+            measure::squared_residuals(
+                self.estimator,
+                fit,
+                self.options.ratio,
+                self.marks,
+                squares,
+            );
             return fit_stands;
         }
         Judgement {
