@@ -1,16 +1,18 @@
 -- The numbers of a file's whole marks: how many there are, and how they come into the lent list, one by one. Assumes nothing.
-use mathlib.Core.Path.{◌≡◌, refl, sym, ◌∙◌}
-use mathlib.Core.List.{List, ◌++◌}
+use mathlib.Core.Path.{◌≡◌, refl, sym, ap, ◌∙◌}
+use mathlib.Core.List.{List, [], ◌++◌}
 use Prim.Native.Nat.{ℕ, ◌+◌, ◌*◌, ◌/◌, ◌≤◌, ◌<◌}
 use native.Mathlib.Nat.{mul-div-le}
 use native.Mathlib.Omega.{arith}
 use lib.ListN.{length, get_or, take, drop, set}
 use lib.Seq.{length-take-le, get_or-take}
-use lib.Ieee.{Float, nan}
+use lib.Ieee.{Float, nan, binary64, of_bits}
+use Rattle.std.specs.Int.{w64, from_le_bytes}
+use Rattle.std.specs.Simd.{first_chunks}
 use Rattle.rule.specs.Lists.{for_each, filled}
 use Rattle.rule.proofs.Lists.{alone, stored_no_room, stored_more, stored_all}
 use Rattle.fields.specs.Fields.{doubles_of, double_at}
-use Rattle.fields.proofs.Reading.{doubles_count, double-read}
+use Rattle.fields.proofs.Reading.{long_read, doubles_count, double-read}
 use Rattle.records.specs.Marks.{numbers_in}
 
 module _ (w : ℕ) (l : List ℕ) where
@@ -38,12 +40,14 @@ module _ (w : ℕ) (l : List ℕ) where
     numbers_no_room h = stored_no_room (numbers_in w l) entry numbers_count h
 
     module _ (room : many ≤ length entry) where
-      pub numbers_more : (i : ℕ) → i < many → numbers_after (i + 1) ≡ set (numbers_after i) i (double_at l i)
-      unfolding numbers_after numbers_in
-      numbers_more i h =
+      -- the number of a part, as the library has it
+      pub numbers_more : (i : ℕ) {parts : List (List ℕ)} {x : Float} → i < many → parts ≡ first_chunks 8 (length l / 8) l → length parts ≡ length l / 8
+          → x ≡ of_bits binary64 (from_le_bytes w64 (get_or parts i [])) → numbers_after (i + 1) ≡ set (numbers_after i) i x
+      unfolding numbers_after numbers_in double_at
+      numbers_more i {parts} {x} h cut count e =
           let inside : i < length l / 8 = (let k = few-enough in omega arith) in
-          let at : double_at l i ≡ get_or (numbers_in w l) i nan =
-          double-read l i nan inside ∙ sym (get_or-take (w * (length (doubles_of l) / w)) (doubles_of l) i nan (rw (doubles_count l) h))
+          let at : x ≡ get_or (numbers_in w l) i nan =
+          e ∙ ap (of_bits binary64) (long_read l i cut (rw count inside) refl) ∙ double-read l i nan inside ∙ sym (get_or-take (w * (length (doubles_of l) / w)) (doubles_of l) i nan (rw (doubles_count l) h))
           in
           sym (stored_more (numbers_in w l) entry numbers_count room nan h at (record { is = refl })).is
 

@@ -11,11 +11,14 @@ use estimator::Estimator;
 pub fn read_marks<E: Estimator>(bytes: &[u8], numbers: &mut [f64])
     ensures { numbers.new ≡ filled (numbers_in E.family.width bytes.now) numbers.old }
 {
-    let n = E::WIDTH * (bytes.len() / 8 / E::WIDTH);
+    // The parts, and not the double at a place: the loop then doesn't ask whether its number is there, and the
+    // compiler makes a plain copy of it for any width.
+    let (parts, _) = bytes.as_chunks::<8>();
+    let n = E::WIDTH * (parts.len() / E::WIDTH);
     if numbers.len() < n {
         return;
     }
     for i in 0..n {
-        numbers[i] = fields::double_at(bytes, i);
+        numbers[i] = fields::double_of(u64::from_le_bytes(parts[i]));
     }
 }
