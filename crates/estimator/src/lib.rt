@@ -2,7 +2,7 @@
 // `Estimator`): what each family gives, and the tests of a list of marks, which all of them share.
 #![tactic(auto)]
 
-ghost use Rattle.std.specs.Prelude.{◌≡◌, ℕ, List, ◌≤◌, ◌/◌, eqb, length, Float};
+ghost use Rattle.std.specs.Prelude.{◌≡◌, OnOk, ℕ, List, ◌≤◌, ◌/◌, eqb, length, Float};
 ghost use Rattle.std.specs.Float.{binary64};
 ghost use Rattle.std.specs.Float.Ieee.{to_bits};
 ghost use Rattle.rule.specs.Answer.{refusal_in, told};
@@ -87,10 +87,11 @@ pub fn mark_count<E: Estimator>(marks: &[f64]) -> usize
     marks.len() / E::WIDTH
 }
 
-// The test of a list's shape, 8,000 numbers at most: refused with 5.
-#[tactic(auto, unfolding(rule::specs::Order::first_failed, crate::specs::Marks::shape_tests, crate::specs::Marks::shape))]
+// The test of a list's shape, 8,000 numbers at most: refused with 5. So there are at most 2,000 marks.
+#[tactic(auto, using(crate::proofs::Tests::at_most), unfolding(rule::specs::Order::first_failed, crate::specs::Marks::shape_tests, crate::specs::Marks::shape))]
 pub fn check_shape<E: Estimator>(marks: &[f64]) -> Result<(), Refusal>
-    ensures { refusal_in result ≡ first_failed (shape_tests E.family marks.now) }
+    ensures refusal_value { refusal_in result ≡ first_failed (shape_tests E.family marks.now) }
+    ensures few_enough { OnOk result (length (E.family.marks_of marks.now) ≤ 2000) }
 {
     if marks.len() % E::WIDTH != 0 {
         return Err(Refusal::Shape);
@@ -125,7 +126,8 @@ pub fn all_in_range(numbers: &[f64]) -> bool
 // The tests of a list of marks, in order: refused with 5 or 6.
 #[tactic(auto, unfolding(rule::specs::Order::first_failed, crate::specs::Marks::marks_tests, crate::specs::Marks::shape_tests, crate::specs::Marks::shape, crate::specs::Marks::point))]
 pub fn check_marks<E: Estimator>(marks: &[f64]) -> Result<(), Refusal>
-    ensures { refusal_in result ≡ first_failed (marks_tests E.family marks.now) }
+    ensures refusal_value { refusal_in result ≡ first_failed (marks_tests E.family marks.now) }
+    ensures few_enough { OnOk result (length (E.family.marks_of marks.now) ≤ 2000) }
 {
     check_shape::<E>(marks)?;
     if !all_in_range(marks) {

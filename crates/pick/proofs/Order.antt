@@ -2,20 +2,20 @@
 use mathlib.Core.Path.{◌≡◌, refl, sym, ap, ap₂, ◌∙◌}
 use mathlib.Core.Bool.{Bool, true, false, cond}
 use mathlib.Core.List.{List, [], ◌∷◌, ◌++◌}
-use Prim.Native.Nat.{ℕ, zero, suc, ◌/◌, ◌≤◌}
+use Prim.Native.Nat.{ℕ, zero, suc, ◌≤◌}
 use native.Mathlib.Omega.{arith}
 use borrow.Author.Tests.{eq-eqb, ne_eqb, eqb-true}
 use lib.Dec.{eqb}
 use lib.ListN.{length}
 use lib.Ieee.{Float}
 use Rattle.rule.specs.Refusal.{SHAPE, ENDED, number_of}
-use Rattle.rule.specs.Order.{Test, first_failed, if_passed}
+use Rattle.rule.specs.Answer.{refused}
+use Rattle.rule.specs.Order.{Test, first_failed, decided, if_passed}
 use Rattle.rule.specs.declared.Refusal.{Refusal}
 use Rattle.rule.proofs.Views.{number_above_0}
-use Rattle.rule.proofs.Order.{front, numbered, stops, passes, first_passed, one_failed, none_failed}
+use Rattle.rule.proofs.Order.{decided_some, front, numbered, stops, passes, first_passed, one_failed, none_failed}
 use Rattle.estimator.specs.Family.{Family}
 use Rattle.estimator.specs.Marks.{shape, point, few, of_run, entries, marks_tests}
-use Rattle.estimator.proofs.Tests.{short_enough, few_marks}
 use Rattle.book.specs.Score.{Judged, turned_down, Judgement}
 use Rattle.book.specs.Book.{is_refused, entered}
 use Rattle.book.specs.Calls.{is_closed, tried}
@@ -38,17 +38,14 @@ options_first o rest = front (options_tests o) rest (options_above_0 o)
 pub above_0 : (e : Refusal) → eqb (number_of e) 0 ≡ false
 above_0 e = ne_eqb (number_of e) 0 (number_above_0 e)
 
+-- so it refuses
+pub refuses : {A : Type 0} (e : Refusal) (a : A) {k : ℕ} → number_of e ≡ k → refused (number_of e) ≡ decided k a
+refuses e a h = rw (← h) (decided_some (number_of e) a (number_above_0 e))
+
 module _ {E M K : Type 0} (f : Family E M K) where
   pub marks_first : (l : List Float) (rest : List Test) → first_failed (marks_tests f l ++ rest) ≡ cond (eqb (first_failed (marks_tests f l)) 0) (first_failed rest) (first_failed (marks_tests f l))
   unfolding numbered marks_tests shape point
   marks_first l rest = front (marks_tests f l) rest tt
-
-  -- marks that passed are at most 2,000
-  pub at_most_2000 : (w : ℕ) → 4 ≤ w → ((l : List Float) → length (f.marks_of l) ≡ length l / w) → (l : List Float) → 0 ≡ first_failed (marks_tests f l) → length (f.marks_of l) ≤ 2000
-  unfolding marks_tests shape
-  at_most_2000 w wide counts l h =
-      let a = first_passed (shape f l) _ tt (sym h) in
-      few_marks f w wide counts l (short_enough f l a.0)
 
 -- ---- a trial of the run's marks, which pass: it is what it is without test 6
 

@@ -2,7 +2,7 @@
 -- Assumes nothing.
 use mathlib.Core.Path.{◌≡◌, sym}
 use mathlib.Core.List.{List, [], ◌++◌}
-use Prim.Native.Nat.{ℕ, ◌/◌, ◌≤◌}
+use Prim.Native.Nat.{ℕ, ◌≤◌}
 use native.Mathlib.Omega.{arith}
 use borrow.Author.Tests.{ltb-false}
 use lib.ListN.{length, drop}
@@ -13,40 +13,38 @@ use Rattle.rule.specs.Order.{first_failed, decided, if_passed, room}
 use Rattle.rule.proofs.Order.{first_passed}
 use Rattle.estimator.specs.Family.{Family, distances_of}
 use Rattle.estimator.specs.Marks.{shape, point, few, of_run, marks_tests}
-use Rattle.estimator.proofs.Tests.{short_enough, few_marks}
 use Rattle.measure.proofs.Squares.{distances-count}
 use Rattle.score.specs.Places.{indices_in, indexed, index_count}
 use Rattle.score.proofs.Walk.{all_counted, all_indexed}
 use Rattle.pick.specs.Run.{Run}
 use Rattle.pick.specs.Indices.{marks_order, under_answer, under_after, winner_answer, winner_after, indices_answer, indices_after}
 
-module _ {E M K : Type 0} (f : Family E M K) (w : ℕ) (wide : 4 ≤ w) (counts : (l : List Float) → length (f.marks_of l) ≡ length l / w)
-    (e : E) (n : ℕ) (ratio thresh : Float) (h : M) (l : List Float) (entry : List ℕ) (passed : 0 ≡ first_failed (marks_order f n l (length entry)))
+module _ {E M K : Type 0} (f : Family E M K) (e : E) (n : ℕ) (ratio thresh : Float) (h : M) (l : List Float) (entry : List ℕ) (passed : 0 ≡ first_failed (marks_order f n l (length entry)))
+    (most : length (f.marks_of l) ≤ 2000)
   where
-  abbrev ds : List Float
-  ds = distances_of f e ratio l h
+    abbrev ds : List Float
+    ds = distances_of f e ratio l h
 
-  abbrev indices : List ℕ
-  indices = indices_in thresh ds
+    abbrev indices : List ℕ
+    indices = indices_in thresh ds
 
-  roomy : (length ds ≤ length entry) × (length ds ≤ 2000)
-  unfolding marks_order marks_tests of_run shape point few room
-  roomy =
-      let a = first_passed (of_run f n l) _ tt (sym passed) in
-      let b = first_passed (shape f l) _ tt a.1 in
-      let c = first_passed (point l) _ tt b.1 in
-      let d = first_passed (few f l) _ tt c.1 in
-      let g = first_passed (room (length (f.marks_of l)) (length entry)) [] tt d.1 in
-      let most = few_marks f w wide counts l (short_enough f l b.0) in
-      let place : length (f.marks_of l) ≤ length entry = ltb-false (length entry) (length (f.marks_of l)) g.0 in
-      let many = distances-count f e ratio l h in
-      (omega (arith, many, place), omega (arith, many, most))
+    roomy : (length ds ≤ length entry) × (length ds ≤ 2000)
+    unfolding marks_order marks_tests of_run shape point few room
+    roomy =
+        let a = first_passed (of_run f n l) _ tt (sym passed) in
+        let b = first_passed (shape f l) _ tt a.1 in
+        let c = first_passed (point l) _ tt b.1 in
+        let d = first_passed (few f l) _ tt c.1 in
+        let g = first_passed (room (length (f.marks_of l)) (length entry)) [] tt d.1 in
+        let place : length (f.marks_of l) ≤ length entry = ltb-false (length entry) (length (f.marks_of l)) g.0 in
+        let many = distances-count f e ratio l h in
+        (omega (arith, many, place), omega (arith, many, most))
 
-  pub count_written : index_count thresh ds entry ≡ length indices
-  count_written = all_counted thresh ds entry roomy.0 roomy.1
+    pub count_written : index_count thresh ds entry ≡ length indices
+    count_written = all_counted thresh ds entry roomy.0 roomy.1
 
-  pub all_written : indexed thresh ds entry ≡ indices ++ drop (length indices) entry
-  all_written = all_indexed thresh ds entry roomy.0 roomy.1
+    pub all_written : indexed thresh ds entry ≡ indices ++ drop (length indices) entry
+    all_written = all_indexed thresh ds entry roomy.0 roomy.1
 
 -- a number that is answered is of the front of the list that is left
 pub count_inside : {E M K : Type 0} (f : Family E M K) (r : Run E M) (l : List Float) (entry : List ℕ) {k : ℕ} → gives k ≡ indices_answer f r l entry → k ≤ length (indices_after f r l entry)

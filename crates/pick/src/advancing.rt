@@ -44,9 +44,9 @@ fn next_winner<M: Copy>(
 impl<E: Copy, M: Copy> BeforeEnd<E, M> {
     // The state after a scored trial whose squares are at the front of the list.
     #[tactic(auto, using(crate::proofs::Booking::open_counts), unfolding(book::specs::Book::entered, judge::specs::Judging::rule_of, judge::specs::Judging::support_with))]
-    fn after_scored(self, t: Support<M>, squares: &[f64]) -> State<E, M>
-        requires { self.state.n ≤ length squares.now }
-        ensures { view_state result ≡ (booked self.state (scored (support_with self.state.options.thresh (take self.state.n squares.now) t))).run }
+    fn after_scored(&self, t: Support<M>, squares: &[f64]) -> State<E, M>
+        requires { self.now.state.n ≤ length squares.now }
+        ensures { view_state result ≡ (booked self.now.state (scored (support_with self.now.state.options.thresh (take self.now.state.n squares.now) t))).run }
     {
         let s = self.state;
         let number = s.counts.read + 1;

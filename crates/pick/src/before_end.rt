@@ -8,7 +8,7 @@ ghost use Rattle.pick.specs.Trial.{booked, scored_run};
 use crate::run_state::{State, Winner};
 use rule::Refusal;
 
-#[derive(Clone, Copy)]
+#[derive(Drop)]
 pub(crate) struct BeforeEnd<E, M> {
     pub state: State<E, M>,
     ghost takes_one: { is_closed (book_of state) ≡ false },
@@ -29,8 +29,8 @@ impl<E: Copy, M: Copy> BeforeEnd<E, M> {
     // The state after a trial without a fit. (This and `few` stay two: one for both would take which count
     // goes up.)
     #[tactic(auto, using(crate::proofs::Booking::open_counts), unfolding(book::specs::Book::entered))]
-    pub fn empty(self) -> State<E, M>
-        ensures { view_state result ≡ (booked self.state empty).run }
+    pub fn empty(&self) -> State<E, M>
+        ensures { view_state result ≡ (booked self.now.state empty).run }
     {
         let mut s = self.state;
         s.counts.read += 1;
@@ -40,8 +40,8 @@ impl<E: Copy, M: Copy> BeforeEnd<E, M> {
 
     // The state after a trial whose fit has too few marks, however many they are.
     #[tactic(auto, using(crate::proofs::Booking::open_counts), unfolding(book::specs::Book::entered))]
-    pub fn few(self) -> State<E, M>
-        ensures { view_state result ≡ (booked self.state (few 0)).run }
+    pub fn few(&self) -> State<E, M>
+        ensures { view_state result ≡ (booked self.now.state (few 0)).run }
     {
         let mut s = self.state;
         s.counts.read += 1;
@@ -51,8 +51,8 @@ impl<E: Copy, M: Copy> BeforeEnd<E, M> {
 
     // The state after a scored trial with this stop entry: it resets the bound, itself counted as read.
     #[tactic(auto, using(crate::proofs::Booking::open_counts))]
-    pub fn scored(self, winner: Option<Winner<M>>, stop: u32) -> State<E, M>
-        ensures { view_state result ≡ scored_run (view_state self.state) (view_best winner) stop }
+    pub fn scored(&self, winner: Option<Winner<M>>, stop: u32) -> State<E, M>
+        ensures { view_state result ≡ scored_run (view_state self.now.state) (view_best winner) stop }
     {
         let mut s = self.state;
         s.counts.read += 1;

@@ -1,6 +1,6 @@
 // Which marks lie within the threshold under the winner (document 01, 'Winner'). They are worked out
 // again from its model.
-ghost use Rattle.std.specs.Prelude.{◌≡◌};
+ghost use Rattle.std.specs.Prelude.{◌≡◌, ◌≤◌, OnOk, length};
 ghost use Rattle.rule.specs.Answer.{answered, refusal_in};
 ghost use Rattle.rule.specs.Order.{first_failed};
 ghost use Rattle.pick.specs.Run.{view_state};
@@ -13,7 +13,8 @@ use rule::Refusal;
 // The tests after 11, in order.
 #[tactic(auto, using(crate::proofs::Order::marks_first, crate::proofs::Order::above_0), unfolding(rule::specs::Order::first_failed, rule::specs::Order::room, crate::specs::Indices::marks_order, estimator::specs::Marks::of_run, estimator::specs::Marks::few))]
 fn check_order<E: Estimator>(n: usize, marks: &[f64], places: usize) -> Result<(), Refusal>
-    ensures { refusal_in result ≡ first_failed (marks_order E.family n marks.now places) }
+    ensures refusal_value { refusal_in result ≡ first_failed (marks_order E.family n marks.now places) }
+    ensures few_enough { OnOk result (length (E.family.marks_of marks.now) ≤ 2000) }
 {
     if estimator::mark_count::<E>(marks) != n {
         return Err(Refusal::Shape);
@@ -44,5 +45,12 @@ pub fn winner_indices<E: Estimator>(
     check_order::<E>(s.n, marks, indices.len())?;
     // no heap, so there is a place for each mark of the longest run
     let mut squares = [0.0; 2000];
-    Ok(judge::write_inliers(s.estimator, s.options, winner.model, marks, &mut squares, indices))
+    Ok(judge::write_inliers(
+        s.estimator,
+        s.options,
+        winner.model,
+        marks,
+        &mut squares,
+        indices,
+    ))
 }

@@ -1,9 +1,10 @@
 // The opening of a run (document 01, 'Options' and 'Refusals', and document 02, orders 3 and 5): tests 1 to
 // 4, 16, 5 to 8, and what the family asks. (Marks and stop entries are two lists, as document 01 hands them to an opening.)
 ghost use Rattle.std.specs.Prelude.{◌≡◌};
-ghost use Rattle.rule.specs.Answer.{told};
+ghost use Rattle.rule.specs.Answer.{told, refusal_in};
+ghost use Rattle.rule.specs.Order.{first_failed};
 ghost use Rattle.pick.specs.Run.{view_state};
-ghost use Rattle.pick.specs.Opening.{fresh_run, opening_answer, record_answer};
+ghost use Rattle.pick.specs.Opening.{fresh_run, opening_tests, opening_answer, record_answer};
 
 use crate::run_state::State;
 use booking::Counts;
@@ -31,15 +32,15 @@ pub fn fresh_run<E: Copy, M: Copy>(e: E, o: RansacOptions, n: usize) -> State<E,
     }
 }
 
-// Opens a run; refused with 2, 3, 4, 16, 5, 6, 7 or 8, in this order, and then by what the family asks.
-#[tactic(auto, using(crate::proofs::Order::options_first, crate::proofs::Order::marks_first, crate::proofs::Order::at_most_2000), unfolding(rule::specs::Order::first_failed, rule::specs::Order::decided, crate::specs::Opening::opening_answer, crate::specs::Opening::opening_tests, estimator::specs::Marks::few, estimator::specs::Marks::entries))]
-pub fn open<E: Estimator>(
+// The tests of an opening, in order.
+#[tactic(auto, using(crate::proofs::Order::options_first, crate::proofs::Order::marks_first, crate::proofs::Order::above_0), unfolding(rule::specs::Order::first_failed, crate::specs::Opening::opening_tests, estimator::specs::Marks::few, estimator::specs::Marks::entries))]
+fn check_order<E: Estimator>(
     e: E,
     o: RansacOptions,
     marks: &[f64],
     stops: &[u32],
-) -> Result<State<E, E::Model>, Refusal>
-    ensures { told view_state result ≡ opening_answer E.family e o marks.now stops.now }
+) -> Result<(), Refusal>
+    ensures { refusal_in result ≡ first_failed (opening_tests E.family e o marks.now stops.now) }
 {
     records::validate(o)?;
     estimator::check_marks::<E>(marks)?;
@@ -50,8 +51,21 @@ pub fn open<E: Estimator>(
     if stops.len() != n + 1 {
         return Err(Refusal::Stops);
     }
-    e.validate()?;
-    Ok(fresh_run(e, o, n))
+    e.validate()
+}
+
+// Opens a run; refused with 2, 3, 4, 16, 5, 6, 7 or 8, in this order, and then by what the family asks.
+#[tactic(auto, using(crate::proofs::Order::refuses), unfolding(rule::specs::Order::decided, crate::specs::Opening::opening_answer))]
+pub fn open<E: Estimator>(
+    e: E,
+    o: RansacOptions,
+    marks: &[f64],
+    stops: &[u32],
+) -> Result<State<E, E::Model>, Refusal>
+    ensures { told view_state result ≡ opening_answer E.family e o marks.now stops.now }
+{
+    check_order(e, o, marks, stops)?;
+    Ok(fresh_run(e, o, estimator::mark_count::<E>(marks)))
 }
 
 // Opens a run by a record of options; refused with 1 too, before the others.

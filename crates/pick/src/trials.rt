@@ -23,8 +23,8 @@ fn wins<M: Copy>(s: Standing<M>, best: Option<Winner<M>>) -> bool
 impl<E: Estimator> BeforeEnd<E, E::Model> {
     // The answer to a scored trial.
     #[tactic(auto, using(crate::proofs::Booking::open_counts), unfolding(book::specs::Book::entered, book::specs::Book::winner_after, book::specs::Book::scored_answer, judge::specs::Judging::standing_of, judge::specs::Judging::rule_of))]
-    fn held_or_won(self, s: Standing<E::Model>, beyond: u32) -> Tried<E, E::Model>
-        ensures { view_tried result ≡ answer_of (booked self.state (scored (standing_of s))) beyond }
+    fn held_or_won(&self, s: Standing<E::Model>, beyond: u32) -> Tried<E, E::Model>
+        ensures { view_tried result ≡ answer_of (booked self.now.state (scored (standing_of s))) beyond }
     {
         let best = self.state.winner;
         let t = s.support;
@@ -50,8 +50,8 @@ impl<E: Estimator> BeforeEnd<E, E::Model> {
 
     // The answer to a judged trial.
     #[tactic(auto, unfolding(book::specs::Book::entered))]
-    fn answered(self, j: Judgement<Standing<E::Model>>) -> Tried<E, E::Model>
-        ensures { view_tried result ≡ answer_of (booked self.state (judged_as standing_of j.verdict)) j.beyond }
+    fn answered(&self, j: Judgement<Standing<E::Model>>) -> Tried<E, E::Model>
+        ensures { view_tried result ≡ answer_of (booked self.now.state (judged_as standing_of j.verdict)) j.beyond }
     {
         let beyond = j.beyond;
         match j.verdict {
@@ -71,10 +71,11 @@ impl<E: Estimator> BeforeEnd<E, E::Model> {
 
     // One trial over marks that were tested before: refused with 5, 7, 8 or 1, in this order.
     #[tactic(auto, unfolding(crate::specs::Trial::step_answer, book::specs::Calls::tried, book::specs::Book::entered))]
-    fn judged(self, call: Call) -> Result<Tried<E, E::Model>, Refusal>
-        ensures { answer_in self.state result ≡ step_answer E.family (view_state self.state) (call_of call.entry) }
+    fn judged(&self, call: Call) -> Result<Tried<E, E::Model>, Refusal>
+        ensures { answer_in self.now.state result ≡ step_answer E.family (view_state self.now.state) (call_of call.entry) }
     {
-        let j = judge::judge(self.state.estimator, self.state.options, self.state.n, call)?;
+        let s = self.state;
+        let j = judge::judge(s.estimator, s.options, s.n, call)?;
         Ok(self.answered(j))
     }
 }
