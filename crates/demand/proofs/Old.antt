@@ -10,7 +10,11 @@ use Rattle.rule.specs.Lists.{for_each}
 use Rattle.numbers.specs.Constants.{one}
 use Rattle.numbers.specs.Finite.{is_finite}
 use Rattle.numbers.specs.Ratio.{ratio_accepted, ratio}
-use Rattle.sheet.specs.Marks.{marks_of, few, marks_tests}
+use Rattle.numbers.specs.Measure.{as_distance}
+use Rattle.estimator.specs.Family.{distance_of, distances_of}
+use Rattle.estimator.specs.Marks.{few, entries, marks_tests}
+use Rattle.sheet.specs.Marks.{marks_of}
+use Rattle.sheet.specs.Sheets.{sheet, no_camera}
 use Rattle.sheet.specs.declared.model.Model.{Model}
 use Rattle.sheet.proofs.Ratio.{measure_one}
 use Rattle.book.specs.Score.{turned_down, judge_trial, Judgement}
@@ -24,30 +28,34 @@ use Rattle.records.specs.Marks.{numbers_in}
 use Rattle.records.specs.declared.options.RansacOptions.{RansacOptions}
 use Rattle.records.proofs.Placed.{ratio-none}
 use Rattle.records.proofs.Short.{short_fields, short_sound}
-use Rattle.measure.specs.Distances.{distances_of, plain_distances_of}
-use Rattle.measure.proofs.Plain.{distances-one}
 use Rattle.score.specs.Places.{indices_in}
-use Rattle.judge.specs.Judging.{rule_of, Call, entries, call_tests, worth, judged_by, judge_of, beyond_by, judgement_of}
+use Rattle.judge.specs.Judging.{rule_of, Call, call_tests, worth, judged_by, judge_of, beyond_by, judgement_of}
 use Rattle.pick.specs.Run.{book_of}
 use Rattle.pick.specs.Opening.{opening_tests}
 use Rattle.salghemu.specs.Whole.{Files, order_of, run_tests, calls_of, result_of, after_tests, run_answer, index_bytes, written}
 use Rattle.demand.specs.Demand.{view_told, Ran}
-use Rattle.demand.specs.OldBits.{old_record, old_tests, old_judgement, old_run_tests, old_answer, OldRan, OldBits}
+use Rattle.demand.specs.OldBits.{plain_distances_of, old_record, old_tests, old_judgement, old_run_tests, old_answer, OldRan, OldBits}
 use Rattle.demand.proofs.Whole.{stop_is}
 use Rattle.demand.proofs.Demanded.{demand_3}
+
+-- ---- with ratio 1 the distances are 01's own, of all marks under all models, as functions
+
+distances-one : distances_of sheet no_camera one ≡ plain_distances_of
+unfolding distances_of plain_distances_of distance_of
+distances-one = λ i l h. map (λ m. as_distance (measure_one no_camera h m i)) (marks_of l)
 
 -- ---- options with ratio 1
 
 module _ (o : RansacOptions) (is : o.ratio ≡ one) where
-  same-distances : distances_of o.ratio ≡ plain_distances_of
-  same-distances = ap distances_of is ∙ distances-one
+  same-distances : distances_of sheet no_camera o.ratio ≡ plain_distances_of
+  same-distances = ap (distances_of sheet no_camera) is ∙ distances-one
 
-  same-call : judgement_of o ≡ old_judgement o
+  same-call : judgement_of sheet no_camera o ≡ old_judgement o
   unfolding judge_of judged_by worth old_judgement
   same-call = λ i n c.
       record {
-        worth = if_passed (first_failed (call_tests n c)) (judge_trial (rule_of o) (same-distances i c.marks) c.stops (trial_of c.bytes)) (turned_down (first_failed (call_tests n c)));
-        beyond = beyond_by (call_tests n c) c;
+        worth = if_passed (first_failed (call_tests sheet n c)) (judge_trial (rule_of o) (same-distances i c.marks) c.stops (trial_of sheet c.bytes)) (turned_down (first_failed (call_tests sheet n c)));
+        beyond = beyond_by sheet no_camera (call_tests sheet n c) c;
       }
 
   accepted : (ratio o.ratio).fails ≡ false
@@ -58,7 +66,7 @@ module _ (o : RansacOptions) (is : o.ratio ≡ one) where
   unfolding first_failed options_tests old_tests
   same_tests rest = rw accepted
 
-  same-opening : (marks : List Float) (stops : List ℕ) → first_failed (opening_tests o marks stops) ≡ first_failed (old_tests o ++ (marks_tests marks ++ (few marks ∷ entries marks stops ∷ [])))
+  same-opening : (marks : List Float) (stops : List ℕ) → first_failed (opening_tests sheet no_camera o marks stops) ≡ first_failed (old_tests o ++ (marks_tests sheet marks ++ (few sheet marks ∷ entries sheet marks stops ∷ [])))
   unfolding opening_tests
   same-opening marks stops = same_tests _
 
@@ -84,7 +92,7 @@ module _ (f : Files) (size : length f.options ≡ 32) where
   old = options_from (unpacked short_layout f.options)
 
   abbrev l : List Float
-  l = numbers_in f.marks
+  l = numbers_in 4 f.marks
 
   one-ratio : o.ratio ≡ one
   one-ratio = short_ratio f.options size
@@ -122,11 +130,11 @@ old_bits =
     record {
       maker = λ thresh. refl;
       short_record = λ l size. (short_ratio l size, short_answer l size);
-      measures = measure_one;
+      measures = measure_one no_camera;
       distances = distances-one;
       opening = λ o marks stops is. same-opening o is marks stops;
       call = λ o n c is. λ i. same-call o is i n c;
       after_calls = λ o marks stops s₀ s calls answers is opening chain carried.
-          subst (λ (judge : ℕ → Call → Judgement Model). Kept (rule_of o) (judge (length (marks_of marks))) calls (map view_told answers) (book_of s)) (same-call o is) (demand_3.after_calls o marks stops s₀ s calls answers opening chain carried).kept;
+          subst (λ (judge : ℕ → Call → Judgement Model). Kept (rule_of o) (judge (length (marks_of marks))) calls (map view_told answers) (book_of s)) (same-call o is) (demand_3.sheets.after_calls no_camera o marks stops s₀ s calls answers opening chain carried).kept;
       run = λ f r winner indices winner' indices' size ran. run-gives f size r winner indices winner' indices' ran;
     }

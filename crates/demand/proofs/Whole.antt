@@ -18,9 +18,14 @@ use Rattle.rule.specs.Order.{first_failed}
 use Rattle.rule.specs.Lists.{every}
 use Rattle.rule.proofs.Tests.{neither}
 use Rattle.rule.proofs.Order.{passes, first_passed, all_passed, none_failed}
-use Rattle.sheet.specs.Marks.{marks_of, shape, point, few, marks_tests}
+use Rattle.estimator.specs.Family.{distances_of}
+use Rattle.estimator.specs.Marks.{shape, point, few, entries, marks_tests}
+use Rattle.estimator.proofs.Tests.{shaped}
+use Rattle.sheet.specs.Marks.{marks_of}
+use Rattle.sheet.specs.Sheets.{sheet, no_camera}
+use Rattle.sheet.specs.Owed.{wide, counts}
 use Rattle.sheet.specs.declared.model.Model.{Model}
-use Rattle.sheet.proofs.Places.{shaped}
+use Rattle.sheet.specs.declared.model.Sheet.{Sheet}
 use Rattle.book.specs.Score.{Judged}
 use Rattle.book.specs.Book.{Winner, Held, none, held, Book, fresh, book_after, outcomes_of}
 use Rattle.book.specs.Calls.{Called, is_refusal}
@@ -33,20 +38,19 @@ use Rattle.records.proofs.Formed.{options_above_0}
 use Rattle.records.specs.Marks.{numbers_in}
 use Rattle.records.specs.declared.options.RansacOptions.{RansacOptions}
 use Rattle.records.proofs.Whole.{numbers-length}
-use Rattle.measure.specs.Distances.{distances_of}
 use Rattle.score.specs.Places.{indices_in}
-use Rattle.judge.specs.Judging.{rule_of, entries, judge_of, judgement_of}
+use Rattle.judge.specs.Judging.{rule_of, judge_of, judgement_of}
 use Rattle.pick.specs.Run.{view_best, book_of, view_outcome}
 use Rattle.pick.specs.Opening.{opening_tests}
 use Rattle.pick.specs.declared.run_state.State.{State}
-use Rattle.salghemu.specs.Whole.{Files, mark_bytes, stop_bytes, later_tests, order_of, run_tests, records_in, call_with, calls_of, judged_in, stop_of, won_by, result_of, after_tests, run_answer, number_of, index_bytes, written, Gave}
+use Rattle.salghemu.specs.Whole.{Files, mark_bytes, stop_bytes, later_tests, order_of, run_tests, records_in, call_with, calls_of, judged_in, stop_of, won_by, result_of, after_tests, run_answer, number_of, index_bytes, laid_over, written, Gave}
 use Rattle.demand.specs.Demand.{Opening, Told, view_told, Tried, Refuses, GivesOf, CalledAlike, AfterRun, by_tests, by_trials}
 use Rattle.demand.proofs.Listed.{opening-accepted, after_list, given_as, calls_answered}
 
 -- the run's trials are the calls
-pub stop_is : (p : RansacOptions) (m : ℕ) (f : Files) → stop_of p m (numbers_in f.marks) (words_of f.stops) (records_in f.trials) ≡ run_over (rule_of p) (fresh (rule_of p)) (map (judge_of p m) (calls_of f))
+pub stop_is : (p : RansacOptions) (m : ℕ) (f : Files) → stop_of p m (numbers_in 4 f.marks) (words_of f.stops) (records_in f.trials) ≡ run_over (rule_of p) (fresh (rule_of p)) (map (judge_of sheet no_camera p m) (calls_of f))
 unfolding stop_of judged_in calls_of
-stop_is p m f = ap (run_over (rule_of p) (fresh (rule_of p))) (sym (map-map (judge_of p m) (call_with (numbers_in f.marks) (words_of f.stops)) (records_in f.trials)))
+stop_is p m f = ap (run_over (rule_of p) (fresh (rule_of p))) (sym (map-map (judge_of sheet no_camera p m) (call_with (numbers_in 4 f.marks) (words_of f.stops)) (records_in f.trials)))
 
 -- ---- what the run's tests say where they all pass
 
@@ -55,7 +59,7 @@ module _ (f : Files) (winner indices : ℕ) (all : first_failed (run_tests f win
   o = options_of f.options
 
   abbrev l : List Float
-  l = numbers_in f.marks
+  l = numbers_in 4 f.marks
 
   abbrev n : ℕ
   n = length (marks_of l)
@@ -65,7 +69,7 @@ module _ (f : Files) (winner indices : ℕ) (all : first_failed (run_tests f win
     pub cut : length f.marks % 32 ≡ 0
     pub short : length f.marks ≤ 64000
     pub point_fine : (point l).fails ≡ false
-    pub few_fine : (few l).fails ≡ false
+    pub few_fine : (few sheet l).fails ≡ false
     pub stops_fine : length f.stops ≡ 4 * suc n
 
   fine : Fine
@@ -76,7 +80,7 @@ module _ (f : Files) (winner indices : ℕ) (all : first_failed (run_tests f win
       let d = first_passed (mark_bytes f.marks) _ tt (all_passed (options_tests o) _ (options_above_0 o) options ∙ r.1) in
       let m = neither (not (eqb (length f.marks % 32) 0)) (ltb 64000 (length f.marks)) d.0 in
       let e = first_passed (point l) _ tt d.1 in
-      let g = first_passed (few l) _ tt e.1 in
+      let g = first_passed (few sheet l) _ tt e.1 in
       let h = first_passed (stop_bytes n (length f.stops)) _ tt g.1 in
       record {
         options_fine = options;
@@ -87,13 +91,13 @@ module _ (f : Files) (winner indices : ℕ) (all : first_failed (run_tests f win
         stops_fine = eqb-true (length f.stops) (4 * suc n) (not-false (eqb (length f.stops) (4 * suc n)) h.0);
       }
 
-  shape_fine : (shape l).fails ≡ false
+  shape_fine : (shape sheet l).fails ≡ false
   shape_fine =
       let long = numbers-length f.marks in
       let s = fine.short in
-      shaped l (omega (arith, long)) (omega (arith, long, s))
+      shaped sheet l (omega (arith, long)) (omega (arith, long, s))
 
-  entries_fine : (entries l (words_of f.stops)).fails ≡ false
+  entries_fine : (entries sheet l (words_of f.stops)).fails ≡ false
   unfolding entries
   entries_fine = let c = words_count f.stops in let s = fine.stops_fine in rw (eq-eqb (length (words_of f.stops)) (suc n) (omega (arith, c, s)))
 
@@ -101,21 +105,21 @@ module _ (f : Files) (winner indices : ℕ) (all : first_failed (run_tests f win
   unfolding first_failed
   none_left = refl
 
-  pub opening_fine : 0 ≡ first_failed (opening_tests o l (words_of f.stops))
+  pub opening_fine : 0 ≡ first_failed (opening_tests sheet no_camera o l (words_of f.stops))
   unfolding opening_tests marks_tests
   opening_fine =
       none_left
-      ∙ passes (entries l (words_of f.stops)) [] entries_fine
-      ∙ passes (few l) _ fine.few_fine
+      ∙ passes (entries sheet l (words_of f.stops)) [] entries_fine
+      ∙ passes (few sheet l) _ fine.few_fine
       ∙ passes (point l) _ fine.point_fine
-      ∙ passes (shape l) _ shape_fine
+      ∙ passes (shape sheet l) _ shape_fine
       ∙ all_passed (options_tests o) _ (options_above_0 o) fine.options_fine
 
 -- ---- the run's promise, by its answer
 
 module _ (f : Files) (r : ℕ) (winner indices winner' indices' : List ℕ) where
   abbrev Gives : Rattle.rule.specs.Answer.Answer (Winner Model) → Type 0
-  Gives a = Gave a (options_of f.options) (numbers_in f.marks) winner indices r winner' indices'
+  Gives a = Gave a (options_of f.options) (numbers_in 4 f.marks) winner indices r winner' indices'
 
   gave_refused : (k : ℕ) → Gives (refused k) → Refuses k r winner indices winner' indices'
   unfolding number_of written
@@ -128,27 +132,27 @@ module _ (f : Files) (r : ℕ) (winner indices winner' indices' : List ℕ) wher
     p = options_of f.options
 
     abbrev numbers : List Float
-    numbers = numbers_in f.marks
+    numbers = numbers_in 4 f.marks
 
     abbrev m : ℕ
     m = length (marks_of numbers)
 
     abbrev js : List (Judged Model)
-    js = map (judge_of p m) (calls_of f)
+    js = map (judge_of sheet no_camera p m) (calls_of f)
 
     -- the winner of the calls one by one, and their indices
-    module _ (s₀ s : State) (answers : List Told) (read : ℕ) (opening : Opening p numbers (words_of f.stops) s₀) (chain : Called Tried s₀ (take read (calls_of f)) answers s) where
-      listed : ((s.options ≡ p) × (s.n ≡ m)) × Kept (rule_of p) (judgement_of p m) (take read (calls_of f)) (map view_told answers) (book_of s)
-      listed = after_list p numbers (words_of f.stops) s₀ opening s (take read (calls_of f)) answers chain
+    module _ (s₀ s : State Sheet Model) (answers : List Told) (read : ℕ) (opening : Opening sheet no_camera p numbers (words_of f.stops) s₀) (chain : Called (Tried sheet) s₀ (take read (calls_of f)) answers s) where
+      listed : ((s.estimator ≡ no_camera) × ((s.options ≡ p) × (s.n ≡ m))) × Kept (rule_of p) (judgement_of sheet no_camera p m) (take read (calls_of f)) (map view_told answers) (book_of s)
+      listed = after_list sheet 4 wide counts no_camera p numbers (words_of f.stops) s₀ opening s (take read (calls_of f)) answers chain
 
       book_is : book_of s ≡ book_after (rule_of p) (fresh (rule_of p)) (take read js)
-      book_is = listed.1.booked ∙ ap (book_after (rule_of p) (fresh (rule_of p))) (sym (take-map (judge_of p m) read (calls_of f)))
+      book_is = listed.1.booked ∙ ap (book_after (rule_of p) (fresh (rule_of p))) (sym (take-map (judge_of sheet no_camera p m) read (calls_of f)))
 
       outcomes_are : map (λ a. a.outcome) (map view_told answers) ≡ outcomes_of (rule_of p) (fresh (rule_of p)) (take read js)
       outcomes_are =
           ap (map (λ a. a.outcome)) listed.1.answered
-          ∙ outcomes_of_lem (rule_of p) (judgement_of p m) (fresh (rule_of p)) (take read (calls_of f))
-          ∙ ap (outcomes_of (rule_of p) (fresh (rule_of p))) (sym (take-map (judge_of p m) read (calls_of f)))
+          ∙ outcomes_of_lem (rule_of p) (judgement_of sheet no_camera p m) (fresh (rule_of p)) (take read (calls_of f))
+          ∙ ap (outcomes_of (rule_of p) (fresh (rule_of p))) (sym (take-map (judge_of sheet no_camera p m) read (calls_of f)))
 
       none-refused : every (λ a. not (is_refusal a)) (outcomes_of (rule_of p) (fresh (rule_of p)) (take read js)) ≡ true → every (λ x. not (is_refusal (view_outcome x.outcome))) answers ≡ true
       unfolding view_told
@@ -159,9 +163,9 @@ module _ (f : Files) (r : ℕ) (winner indices winner' indices' : List ℕ) wher
           ∙ h
 
       by_winner : (h : Held Model) → view_best s.winner ≡ h → Gives (won_by h) → GivesOf numbers s h r winner indices winner' indices'
-      unfolding GivesOf won_by number_of written index_bytes
+      unfolding GivesOf won_by number_of written index_bytes laid_over
       by_winner none e g = gave_refused NONE g
-      by_winner (held w) e g = (g.number_is, g.winner_is, (indices_in p.thresh (distances_of p.ratio numbers w.model), (g.indices_is, given_as p numbers (words_of f.stops) s₀ opening s listed.0 w e)))
+      by_winner (held w) e g = (g.number_is, g.winner_is, (indices_in p.thresh (distances_of sheet no_camera p.ratio numbers w.model), (g.indices_is, λ entry after r' call room_for. given_as sheet 4 wide counts no_camera p numbers (words_of f.stops) s₀ opening s listed.0 w e entry after r' call room_for)))
 
       winner_is : view_best s.winner ≡ (book_after (rule_of p) (fresh (rule_of p)) (take read js)).winner
       winner_is = ap (λ (b : Book Model). b.winner) book_is
@@ -170,8 +174,8 @@ module _ (f : Files) (r : ℕ) (winner indices winner' indices' : List ℕ) wher
       unfolding result_of
       given_of e g = by_winner (view_best s.winner) refl (subst (λ (h : Held Model). Gives (won_by h)) (sym winner_is) (subst (λ (x : Stopped Model). Gives (result_of x)) e g))
 
-    start : (s₀ : State) × Opening p numbers (words_of f.stops) s₀
-    start = opening-accepted p numbers (words_of f.stops) (sym (opening_fine f (length winner) (length indices) all))
+    start : (s₀ : State Sheet Model) × Opening sheet no_camera p numbers (words_of f.stops) s₀
+    start = opening-accepted sheet no_camera p numbers (words_of f.stops) (sym (opening_fine f (length winner) (length indices) all))
 
     module _ (g : Gives (result_of (stop_of p m numbers (words_of f.stops) (records_in f.trials)))) where
       abbrev result : Stopped Model
@@ -194,7 +198,7 @@ module _ (f : Files) (r : ℕ) (winner indices winner' indices' : List ℕ) wher
       is_stopped : (read : ℕ) → ReadTo (rule_of p) js result read → (b : Book Model) → result ≡ stopped b → CalledAlike f read r winner indices winner' indices'
       is_stopped read to b e =
           record {
-            callable = (start.0, (start.1, calls_answered start.0 (take read (calls_of f))));
+            callable = (start.0, (start.1, calls_answered sheet start.0 (take read (calls_of f))));
             gives_same = λ s₀ s answers opening chain. (none-refused s₀ s answers read opening chain to.accepted, given_of s₀ s answers read opening chain (stopped_is read to b e) of_result);
           }
 
@@ -202,7 +206,7 @@ module _ (f : Files) (r : ℕ) (winner indices winner' indices' : List ℕ) wher
       trials-run = by_trials all result exact.0 exact.1 is_broken (λ b e. is_stopped exact.0 exact.1 b e)
 
   by_number : (k : ℕ) → first_failed (run_tests f (length winner) (length indices)) ≡ k
-      → Gives (after_tests k (result_of (stop_of (options_of f.options) (length (marks_of (numbers_in f.marks))) (numbers_in f.marks) (words_of f.stops) (records_in f.trials))))
+      → Gives (after_tests k (result_of (stop_of (options_of f.options) (length (marks_of (numbers_in 4 f.marks))) (numbers_in 4 f.marks) (words_of f.stops) (records_in f.trials))))
       → AfterRun f r winner indices winner' indices'
   unfolding after_tests
   by_number zero e g = trials-run e g

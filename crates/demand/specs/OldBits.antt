@@ -6,8 +6,13 @@ use Rattle.rule.specs.Answer.{Answer}
 use Rattle.rule.specs.Order.{Test, first_failed, decided, if_passed}
 use Rattle.rule.specs.Lists.{for_each}
 use Rattle.numbers.specs.Constants.{one}
-use Rattle.sheet.specs.Marks.{marks_of, few, marks_tests}
-use Rattle.sheet.specs.Distance.{measure_of, plain_measure_of}
+use Rattle.numbers.specs.Measure.{as_distance}
+use Rattle.estimator.specs.Family.{measure_of, distances_of}
+use Rattle.estimator.specs.Marks.{few, entries, marks_tests}
+use Rattle.sheet.specs.Marks.{marks_of}
+use Rattle.sheet.specs.Distance.{plain_measure_of}
+use Rattle.sheet.specs.Sheets.{sheet, no_camera}
+use Rattle.sheet.specs.declared.model.Sheet.{Sheet}
 use Rattle.sheet.specs.declared.marks.Mark.{Mark}
 use Rattle.sheet.specs.declared.model.Model.{Model}
 use Rattle.book.specs.Score.{turned_down, Judgement, judge_trial}
@@ -20,9 +25,8 @@ use Rattle.records.specs.Options.{short_layout, options_sound, options_from, opt
 use Rattle.records.specs.Trial.{trial_of}
 use Rattle.records.specs.Marks.{numbers_in}
 use Rattle.records.specs.declared.options.RansacOptions.{RansacOptions}
-use Rattle.measure.specs.Distances.{distances_of, plain_distances_of}
 use Rattle.score.specs.Places.{indices_in}
-use Rattle.judge.specs.Judging.{rule_of, Call, entries, call_tests, beyond_by, judgement_of}
+use Rattle.judge.specs.Judging.{rule_of, Call, call_tests, beyond_by, judgement_of}
 use Rattle.pick.specs.Run.{book_of}
 use Rattle.pick.specs.Opening.{opening_tests}
 use Rattle.pick.specs.declared.run_state.State.{State}
@@ -30,6 +34,10 @@ use Rattle.salghemu.specs.Whole.{Files, mark_bytes, later_tests, calls_of, resul
 use Rattle.demand.specs.Demand.{Told, view_told, Tried, Opening, CarriedBy, Ran}
 
 -- ---- before the ratio
+
+-- the distances of a list of marks
+unfoldable pub plain_distances_of : List Float → Model → List Float
+plain_distances_of l h = map (λ m. as_distance (plain_measure_of h m)) (marks_of l)
 
 -- 1: a record of 32 bytes, by its fields
 unfoldable pub old_record : (fields : List ℕ) → Test
@@ -42,10 +50,10 @@ old_tests o = thresh o ∷ confidence o ∷ iters o ∷ []
 -- what a call came to by itself
 unfoldable pub old_judgement : RansacOptions → ℕ → Call → Judgement Model
 old_judgement o n c =
-    let failed = first_failed (call_tests n c) in
+    let failed = first_failed (call_tests sheet n c) in
     record {
-      worth = if_passed failed (judge_trial (rule_of o) (plain_distances_of c.marks) c.stops (trial_of c.bytes)) (turned_down failed);
-      beyond = beyond_by (call_tests n c) c;
+      worth = if_passed failed (judge_trial (rule_of o) (plain_distances_of c.marks) c.stops (trial_of sheet c.bytes)) (turned_down failed);
+      beyond = beyond_by sheet no_camera (call_tests sheet n c) c;
     }
 
 -- ---- the whole run with a record of 32 bytes
@@ -58,7 +66,7 @@ module _ (f : Files) where
   o = options_from fields
 
   abbrev numbers : List Float
-  numbers = numbers_in f.marks
+  numbers = numbers_in 4 f.marks
 
   abbrev n : ℕ
   n = length (marks_of numbers)
@@ -86,14 +94,14 @@ pub record OldBits : Type 0 where
       → ((options_of bytes).ratio ≡ one)
       × (options_answer bytes ≡ decided (first_failed (old_record (unpacked short_layout bytes) ∷ [])) (options_from (unpacked short_layout bytes)))
   -- With it the distance is 01's for every model and mark, NaNs and infinities included, and so are the distances of any list of marks.
-  pub measures : (h : Model) (m : Mark) → measure_of one h m ≡ plain_measure_of h m
-  pub distances : distances_of one ≡ plain_distances_of
+  pub measures : (h : Model) (m : Mark) → measure_of sheet no_camera one h m ≡ plain_measure_of h m
+  pub distances : distances_of sheet no_camera one ≡ plain_distances_of
   -- The opening is refused as before, and each call comes to what it came to: so after any list of calls all is by the old judgement.
   pub opening : (o : RansacOptions) (marks : List Float) (stops : List ℕ) → o.ratio ≡ one
-      → first_failed (opening_tests o marks stops) ≡ first_failed (old_tests o ++ (marks_tests marks ++ (few marks ∷ entries marks stops ∷ [])))
-  pub call : (o : RansacOptions) (n : ℕ) (c : Call) → o.ratio ≡ one → judgement_of o n c ≡ old_judgement o n c
-  pub after_calls : (o : RansacOptions) (marks : List Float) (stops : List ℕ) (s₀ s : State) (calls : List Call) (answers : List Told)
-      → o.ratio ≡ one → Opening o marks stops s₀ → Called Tried s₀ calls answers s → CarriedBy o marks stops calls
+      → first_failed (opening_tests sheet no_camera o marks stops) ≡ first_failed (old_tests o ++ (marks_tests sheet marks ++ (few sheet marks ∷ entries sheet marks stops ∷ [])))
+  pub call : (o : RansacOptions) (n : ℕ) (c : Call) → o.ratio ≡ one → judgement_of sheet no_camera o n c ≡ old_judgement o n c
+  pub after_calls : (o : RansacOptions) (marks : List Float) (stops : List ℕ) (s₀ s : State Sheet Model) (calls : List Call) (answers : List Told)
+      → o.ratio ≡ one → Opening sheet no_camera o marks stops s₀ → Called (Tried sheet) s₀ calls answers s → CarriedBy sheet no_camera o marks stops calls
       → Kept (rule_of o) (old_judgement o (length (marks_of marks))) calls (map view_told answers) (book_of s)
   -- 'gives the old bits': the whole run, whatever its other bytes
   pub run : (f : Files) (r : ℕ) (winner indices winner' indices' : List ℕ) → length f.options ≡ 32 → Ran f winner indices r winner' indices'
