@@ -12,6 +12,9 @@ use Rattle.sheet.specs.Marks.{marks_of}
 use Rattle.sheet.specs.Sheets.{sheet, no_camera}
 use Rattle.sheet.specs.declared.model.Model.{Model}
 use Rattle.sheet.specs.declared.model.Sheet.{Sheet}
+use Rattle.form.specs.Forms.{form}
+use Rattle.form.specs.declared.model.Camera.{Camera}
+use Rattle.form.specs.declared.model.Model.{Model as FormModel}
 use Rattle.book.specs.Score.{count_in, rms_in, Judged}
 use Rattle.book.specs.Book.{Winner, Held, none, held, Book, Answer, fresh, outcomes_of}
 use Rattle.book.specs.Calls.{Called, Carried, is_refusal}
@@ -27,6 +30,7 @@ use Rattle.pick.specs.Trial.{trial_answer, step_answer}
 use Rattle.pick.specs.Indices.{indices_answer, indices_after}
 use Rattle.pick.specs.declared.run_state.State.{State}
 use Rattle.pick.specs.declared.run_state.Outcome.{Outcome}
+use Rattle.form_records.specs.Camera.{camera_in, records_answer}
 use Rattle.salghemu.specs.Whole.{Files, run_tests, calls_of, run_answer, Gave, winner_bytes, laid_over}
 
 -- ---- a trial's answer without its state ('Answers are compared without their state'): the outcome, and the number beyond of document 02, order 2
@@ -188,8 +192,17 @@ module _ (f : Files) where
 
 -- ---- the demand
 
+-- an opening of a form's run by a record of options and one of the camera
+abbrev pub OpensByRecords : (options camera : List ℕ) → (marks : List Float) → (stops : List ℕ) → Result (State Camera FormModel) Refusal → Type 0
+OpensByRecords options camera marks stops r = told view_state r ≡ records_answer options camera marks stops
+
 pub record Demand3 : Type 0 where
-  -- the calls of a sheet
+  -- the calls of a sheet, and those of a form, whose opening gives the camera too (document 02, order 5: 'The picking rule is shown one time for any distance
+  -- and then holds of both families')
   pub sheets : CallsKept sheet
+  pub forms : CallsKept form
+  -- An opening of a form's run by two records that is accepted is one with the options and the camera of these.
+  pub forms_by_records : (options camera : List ℕ) (marks : List Float) (stops : List ℕ) (s₀ : State Camera FormModel) → OpensByRecords options camera marks stops (Ok s₀)
+      → Opening form (camera_in camera) (options_of options) marks stops s₀
   -- 'The whole run, whatever its bytes'
   pub after_run : (f : Files) (r : ℕ) (winner indices winner' indices' : List ℕ) → Ran f winner indices r winner' indices' → AfterRun f r winner indices winner' indices'

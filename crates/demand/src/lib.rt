@@ -6,9 +6,10 @@
 
 ghost use Rattle.rule.specs.Answer.{refusal_in};
 ghost use Rattle.judge.specs.Judging.{call_of};
-ghost use Rattle.demand.specs.Demand.{Opens, OpensBy, Tried as Tries, Stepped, Indexes, Ran};
+ghost use Rattle.demand.specs.Demand.{Opens, OpensBy, OpensByRecords, Tried as Tries, Stepped, Indexes, Ran};
 
 use estimator::Estimator;
+use form::{Camera, Model};
 use judge::Call;
 use pick::{State, Tried};
 use records::RansacOptions;
@@ -34,6 +35,17 @@ pub fn open_record<E: Estimator>(
     ensures { OpensBy E.family e bytes.now marks.now stops.now result }
 {
     pick::open_record(e, bytes, marks, stops)
+}
+
+pub fn open_records(
+    options: &[u8],
+    camera: &[u8],
+    marks: &[f64],
+    stops: &[u32],
+) -> Result<State<Camera, Model>, Refusal>
+    ensures { OpensByRecords options.now camera.now marks.now stops.now result }
+{
+    form_records::open_records(options, camera, marks, stops)
 }
 
 pub fn trial<E: Estimator>(s: State<E, E::Model>, call: Call) -> Tried<E, E::Model>
