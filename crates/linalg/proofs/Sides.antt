@@ -1,40 +1,24 @@
 -- The points of one side: their means, and what is written for them. Assumes nothing.
-use Rattle.std.proofs.Common.{◌≡◌, ℕ, ◌+◌, ◌*◌, ◌<◌, ◌≤◌, List, length, set, pos, refl, sym, ◌∙◌, add-one, arith}
-use lib.Ieee.{Float, binary64, of_int}
-use Rattle.rule.specs.Arith.{◌⊕◌, ◌⊘◌}
-use Rattle.numbers.specs.Constants.{zero'}
+use Rattle.std.proofs.Common.{◌≡◌, ℕ, ◌+◌, ◌*◌, ◌<◌, ◌≤◌, List, length, set, refl, sym, ◌∙◌, add-one, arith}
+use lib.Ieee.{Float}
 use Rattle.root.specs.Root.{root_of}
 use Rattle.sheet.specs.Marks.{points, point_at, squared_apart}
 use Rattle.sheet.specs.declared.marks.Point.{Point}
 use Rattle.sheet.specs.declared.marks.Side.{Side}
 use Rattle.sheet.proofs.Places.{no_point, point-read}
-use Rattle.linalg.specs.Mean.{mean, sum_at, mean_at, mean_root}
+use Rattle.linalg.specs.Mean.{mean, sum_of, mean_of}
 use Rattle.linalg.specs.Normalize.{mean_distance, square_at, normalized_by, pair_of, normalized_list}
 use Rattle.linalg.specs.declared.Change.{Change}
-use Rattle.linalg.proofs.Sums as Sums
+use Rattle.linalg.proofs.Sums.{mean_by_place}
 use Rattle.linalg.proofs.Writing as Writing
 
--- the sum over the first i points
-unfoldable pub sum_of : (Point → Float) → Side → List Float → ℕ → Float
-sum_of term side l i = sum_at (λ k. term (point_at side l k)) i
-
 module _ (side : Side) (l : List Float) where
-  module _ (term : Point → Float) where
-    pub sum_none : sum_of term side l 0 ≡ zero'
-    unfolding sum_of
-    sum_none = Sums.sum_none (λ k. term (point_at side l k))
+  pub mean_is : (term : Point → Float) → mean term (points side l) ≡ mean_of term (point_at side l) (length (points side l))
+  mean_is term = mean_by_place term (point_at side l) (points side l) (no_point side) (point-read side l)
 
-    pub sum_more : (i : ℕ) → sum_of term side l (i + 1) ≡ sum_of term side l i ⊕ term (point_at side l i)
-    unfolding sum_of
-    sum_more = Sums.sum_more (λ k. term (point_at side l k))
-
-    pub mean_is : mean term (points side l) ≡ sum_of term side l (length (points side l)) ⊘ of_int binary64 (pos (length (points side l)))
-    unfolding sum_of mean_at
-    mean_is = Sums.mean_by_place (points side l) (no_point side) (point_at side l) (point-read side l) term
-
-  pub distance_is : (centre : Point) → mean_distance centre (points side l) ≡ mean_root (square_at centre side l) (length (points side l))
-  unfolding mean_distance mean_root square_at
-  distance_is centre = Sums.mean_by_place (points side l) (no_point side) (point_at side l) (point-read side l) (λ p. root_of (squared_apart p centre))
+  pub distance_is : (centre : Point) → mean_distance centre (points side l) ≡ mean_of root_of (square_at centre side l) (length (points side l))
+  unfolding mean_distance mean_of sum_of square_at
+  distance_is centre = mean_is (λ p. root_of (squared_apart p centre))
 
 -- ---- two places in the lent list for each
 

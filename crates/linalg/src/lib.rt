@@ -32,7 +32,7 @@ pub struct Normalized {
     pub matrix: [Row; 3],
 }
 
-#[tactic(auto, unfolding(crate::specs::Normalize::centroid_of), using(crate::proofs::Sides::sum_none, crate::proofs::Sides::sum_more, crate::proofs::Sides::mean_is))]
+#[tactic(auto, unfolding(crate::specs::Normalize::centroid_of, crate::specs::Mean::mean_of), using(crate::proofs::Sums::sum_none, crate::proofs::Sums::sum_more, crate::proofs::Sides::mean_is))]
 pub fn centroid(points: Points) -> Point
     ensures { result ≡ centroid_of (points_of points.entry.side points.entry.marks.now) }
 {

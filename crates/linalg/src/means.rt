@@ -1,7 +1,8 @@
 // The mean of roots (document 01, 'Normalising', and document 02, order 5), of numbers that are worked
 // out place by place: the squares of the points' distances from their centre.
 ghost use Rattle.std.specs.Prelude.{◌≡◌, ℕ, Float};
-ghost use Rattle.linalg.specs.Mean.{mean_root};
+ghost use Rattle.root.specs.Root.{root_of};
+ghost use Rattle.linalg.specs.Mean.{mean_of};
 
 // Squares that are worked out place by place.
 pub trait Squares: Copy {
@@ -20,7 +21,7 @@ pub trait Squares: Copy {
 // after the other (`sqrt_two`).
 #[tactic(auto, using(crate::proofs::Sums::two_none, crate::proofs::Sums::two_more, crate::proofs::Sums::mean_even, crate::proofs::Sums::mean_odd))]
 pub fn mean_root<S: Squares>(squares: S) -> f64
-    ensures { result ≡ mean_root (S.square squares) (S.count squares) }
+    ensures { result ≡ mean_of root_of (S.square squares) (S.count squares) }
 {
     let n = squares.len();
     let count = std::num::nearest_usize_to_f64(n);

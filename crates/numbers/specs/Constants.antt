@@ -13,6 +13,9 @@ one = of_bits binary64 0x3ff0_0000_0000_0000
 abbrev pub two : Float
 two = of_bits binary64 0x4000_0000_0000_0000
 
+abbrev pub three : Float
+three = of_bits binary64 0x4008_0000_0000_0000
+
 abbrev pub four : Float
 four = of_bits binary64 0x4010_0000_0000_0000
 
@@ -23,6 +26,10 @@ one_is = refl
 two_is : two ≡ round binary64 false 2 1
 unfolding of_bits round
 two_is = refl
+
+three_is : three ≡ round binary64 false 3 1
+unfolding of_bits round
+three_is = refl
 
 four_is : four ≡ round binary64 false 4 1
 unfolding of_bits round

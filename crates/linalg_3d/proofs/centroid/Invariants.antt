@@ -1,0 +1,10 @@
+-- `linalg_3d::centroid` meets its contract. Assumes nothing.
+use Rattle.std.proofs.Common.{◌≡◌}
+use Rattle.form.specs.Marks.{point_at}
+use Rattle.linalg.specs.Mean.{sum_of}
+use Rattle.linalg_3d.proofs.centroid.Given as goal
+
+abbrev pub invariant-loop-i : goal.invariant-loop-i
+invariant-loop-i l =
+    let at = point_at l.points.marks.now in
+    (l.x ≡ sum_of (λ p. p.x) at l.i) × (l.y ≡ sum_of (λ p. p.y) at l.i) × (l.z ≡ sum_of (λ p. p.z) at l.i)
