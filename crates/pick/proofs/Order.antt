@@ -71,7 +71,7 @@ module _ {E M K : Type 0} (f : Family E M K) (e : E) (o : RansacOptions) (n : �
     unfolding marks_tests shape
     shape_passed = (first_passed (shape f c.marks) _ tt passed).0
 
-    tested : first_failed (tested_tests f n c) ≡ first_failed (call_tests f n c)
+    pub tested : first_failed (tested_tests f n c) ≡ first_failed (call_tests f n c)
     unfolding tested_tests tested_marks call_tests
     tested =
         sym (passes (of_run f n c.marks) (shape f c.marks ∷ rest) of_run_lem)

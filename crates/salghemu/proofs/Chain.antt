@@ -16,10 +16,12 @@ use Rattle.rule.specs.Lists.{filled}
 use Rattle.rule.proofs.Order.{front, passes, numbered, first_passed}
 use Rattle.rule.proofs.Lists.{filled_front}
 use Rattle.rule.proofs.Views.{number_above_0}
-use Rattle.sheet.specs.Marks.{marks_of, shape, point, few, marks_tests}
+use Rattle.estimator.specs.Marks.{shape, point, few, marks_tests}
+use Rattle.estimator.proofs.Tests.{shaped}
+use Rattle.sheet.specs.Marks.{marks_of}
+use Rattle.sheet.specs.Sheets.{sheet}
+use Rattle.sheet.specs.Owed.{counts}
 use Rattle.sheet.specs.declared.model.Model.{Model}
-use Rattle.sheet.proofs.Places.{count}
-use Rattle.sheet.proofs.Places.{shaped}
 use Rattle.book.specs.Book.{Winner}
 use Rattle.fields.specs.Fields.{words_of}
 use Rattle.fields.proofs.Reading.{words_count}
@@ -67,17 +69,17 @@ module _ (f : Files) (winner indices : ℕ) where
   o = options_of f.options
 
   abbrev n : ℕ
-  n = length (marks_of (numbers_in f.marks))
+  n = length (marks_of (numbers_in 4 f.marks))
 
   abbrev rest : List Test
-  rest = later_tests (numbers_in f.marks) n (length f.stops) (length f.trials) winner indices
+  rest = later_tests (numbers_in 4 f.marks) n (length f.stops) (length f.trials) winner indices
 
   pub by_layers : run_answer f winner indices
       ≡ cond (options_record f.options).fails (refused RECORD)
-      (after_tests (first_failed (options_tests o)) (cond (mark_bytes f.marks).fails (refused SHAPE) (later_answer o (numbers_in f.marks) n f.stops f.trials winner indices)))
+      (after_tests (first_failed (options_tests o)) (cond (mark_bytes f.marks).fails (refused SHAPE) (later_answer o (numbers_in 4 f.marks) n f.stops f.trials winner indices)))
   unfolding run_answer later_answer run_tests order_of numbered first_failed options_record mark_bytes
   by_layers =
-      let a = result_of (stop_of o n (numbers_in f.marks) (words_of f.stops) (records_in f.trials)) in
+      let a = result_of (stop_of o n (numbers_in 4 f.marks) (words_of f.stops) (records_in f.trials)) in
       after_both (options_record f.options ∷ []) (options_tests o ++ (mark_bytes f.marks ∷ rest)) tt a
       ∙ after_one (options_record f.options).fails RECORD _ (omega arith)
       ∙ ap (cond (options_record f.options).fails (refused RECORD)) (after_both (options_tests o) (mark_bytes f.marks ∷ rest) (options_above_0 o) a
@@ -100,7 +102,7 @@ module _ (l : List Float) (table trials winner indices : ℕ) (passed : 0 ≡ fi
   unfolding later_tests point few stop_bytes trial_bytes room
   all_passed_is =
       let a = first_passed (point l) _ tt (sym passed) in
-      let b = first_passed (few l) _ tt a.1 in
+      let b = first_passed (few sheet l) _ tt a.1 in
       let c = first_passed (stop_bytes (length (marks_of l)) table) _ tt b.1 in
       let d = first_passed (trial_bytes trials) _ tt c.1 in
       let e = first_passed (room 88 winner) _ tt d.1 in
@@ -112,9 +114,9 @@ module _ (l : List Float) (table trials winner indices : ℕ) (passed : 0 ≡ fi
         index_room = ltb-false indices (4 * length (marks_of l)) f.0;
       }
 
-  pub marks_tested : length l % 4 ≡ 0 → length l ≤ 8000 → 0 ≡ first_failed (marks_tests l)
+  pub marks_tested : length l % 4 ≡ 0 → length l ≤ 8000 → 0 ≡ first_failed (marks_tests sheet l)
   unfolding marks_tests
-  marks_tested whole short = point_alone l all_passed_is.within ∙ passes (shape l) (point l ∷ []) (shaped l whole short)
+  marks_tested whole short = point_alone l all_passed_is.within ∙ passes (shape sheet l) (point l ∷ []) (shaped sheet l whole short)
 
   pub stops_fit : table ≡ 4 * suc (length (marks_of l))
   stops_fit = all_passed_is.entries
@@ -142,13 +144,13 @@ entries_read bytes zeros {k} e h =
     let w : length (words_of bytes) ≡ k = (let c = words_count bytes in omega (arith, c, e)) in
     ap (λ j. take j (filled (words_of bytes) zeros)) (sym w) ∙ filled_front (words_of bytes) zeros (rw w h)
 
-pub numbers_read : (bytes : List ℕ) (zeros : List Float) {k : ℕ} → length bytes % 32 ≡ 0 → k ≡ length bytes / 8 → k ≤ length zeros → take k (filled (numbers_in bytes) zeros) ≡ numbers_in bytes
+pub numbers_read : (bytes : List ℕ) (zeros : List Float) {k : ℕ} → length bytes % 32 ≡ 0 → k ≡ length bytes / 8 → k ≤ length zeros → take k (filled (numbers_in 4 bytes) zeros) ≡ numbers_in 4 bytes
 numbers_read bytes zeros {k} cut e h =
-    let w : length (numbers_in bytes) ≡ k = (let c = numbers-length bytes in omega (arith, c, cut, e)) in
-    ap (λ j. take j (filled (numbers_in bytes) zeros)) (sym w) ∙ filled_front (numbers_in bytes) zeros (rw w h)
+    let w : length (numbers_in 4 bytes) ≡ k = (let c = numbers-length 4 bytes in omega (arith, c, cut, e)) in
+    ap (λ j. take j (filled (numbers_in 4 bytes) zeros)) (sym w) ∙ filled_front (numbers_in 4 bytes) zeros (rw w h)
 
 -- ---- what the proof of each layer takes
 
 pub ruleset whole = (after_number, after_none, by_layers, winner_fits, indices_fit, numbers_read)
 
-pub ruleset later = (after_number, stops_fit, marks_tested, entries_read, count)
+pub ruleset later = (after_number, stops_fit, marks_tested, entries_read, counts)

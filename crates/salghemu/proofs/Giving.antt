@@ -8,16 +8,17 @@ use lib.ListN.{length, drop}
 use lib.Ieee.{Float}
 use Rattle.rule.specs.Lists.{for_each, filled}
 use Rattle.rule.proofs.Lists.{for_each-length, filled_is}
+use Rattle.estimator.specs.Family.{distances_of}
 use Rattle.sheet.specs.Marks.{marks_of}
 use Rattle.sheet.specs.Distance.{model_numbers}
+use Rattle.sheet.specs.Sheets.{sheet, no_camera}
+use Rattle.sheet.specs.Owed.{counts}
 use Rattle.sheet.specs.declared.model.Model.{Model}
-use Rattle.sheet.proofs.Places.{count}
 use Rattle.book.specs.Book.{Winner}
 use Rattle.book.proofs.Clear.{count-within}
 use Rattle.fields.specs.Fields.{bytes_of, double_bytes}
 use Rattle.fields.proofs.Writing.{bytes_wide, laid_none, laid_more, laid_all}
 use Rattle.records.specs.declared.options.RansacOptions.{RansacOptions}
-use Rattle.measure.specs.Distances.{distances_of}
 use Rattle.score.specs.Places.{indices_in, indexed, index_count}
 use Rattle.score.proofs.Walk.{indices_count as indices_counted, all_counted, all_indexed}
 use Rattle.measure.proofs.Squares.{distances-count}
@@ -41,17 +42,17 @@ winner_laid w s room e f g =
 
 module _ (o : RansacOptions) (l : List Float) (h : Model) where
   abbrev ds : List Float
-  ds = distances_of o.ratio l h
+  ds = distances_of sheet no_camera o.ratio l h
 
   abbrev xs : List ℕ
   xs = indices_in o.thresh ds
 
   few : length xs ≤ length (marks_of l)
-  few = rw (indices_counted o.thresh ds, ← distances-count o.ratio l h) (count-within o.thresh ds)
+  few = rw (indices_counted o.thresh ds, ← distances-count sheet no_camera o.ratio l h) (count-within o.thresh ds)
 
   module _ (places : List ℕ) (short : length l ≤ 8000) (wide : length places ≡ 2000) where
     at_most_2000 : length ds ≤ 2000
-    at_most_2000 = let a = distances-count o.ratio l h in let b = count l in omega (arith, a, b, short)
+    at_most_2000 = let a = distances-count sheet no_camera o.ratio l h in let b = counts l in omega (arith, a, b, short)
 
     pub indices_count : index_count o.thresh ds places ≡ length xs
     indices_count = all_counted o.thresh ds places (rw wide at_most_2000) at_most_2000

@@ -7,9 +7,13 @@ use Rattle.rule.specs.declared.Refusal.{Refusal}
 use Rattle.rule.specs.Answer.{Answer, refused, gives}
 use Rattle.rule.specs.Order.{Test, first_failed, room}
 use Rattle.rule.specs.Lists.{parts_of, for_each}
-use Rattle.sheet.specs.Marks.{marks_of, point, few}
+use Rattle.estimator.specs.Family.{distances_of}
+use Rattle.estimator.specs.Marks.{point, few}
+use Rattle.sheet.specs.Marks.{marks_of}
 use Rattle.sheet.specs.Distance.{model_numbers}
+use Rattle.sheet.specs.Sheets.{sheet, no_camera}
 use Rattle.sheet.specs.declared.model.Model.{Model}
+use Rattle.sheet.specs.declared.model.Sheet.{Sheet}
 use Rattle.book.specs.Score.{Judged}
 use Rattle.book.specs.Book.{Winner, Held, none, held, fresh}
 use Rattle.book.specs.Rule.{Stopped, stopped, broken, run_over}
@@ -17,7 +21,6 @@ use Rattle.fields.specs.Fields.{words_of, bytes_of, double_bytes}
 use Rattle.records.specs.Options.{options_record, options_of, options_tests}
 use Rattle.records.specs.Marks.{numbers_in}
 use Rattle.records.specs.declared.options.RansacOptions.{RansacOptions}
-use Rattle.measure.specs.Distances.{distances_of}
 use Rattle.score.specs.Places.{indices_in}
 use Rattle.judge.specs.Judging.{rule_of, Call, judge_of}
 use Rattle.pick.specs.Run.{book_of}
@@ -47,12 +50,12 @@ trial_bytes bytes = record { fails = not (eqb (bytes % 152) 0); number = RECORD 
 -- those after the marks' length: 6, 7, 8, 1, 9
 unfoldable pub later_tests : (numbers : List Float) → (n stops trials winner indices : ℕ) → List Test
 later_tests numbers n stops trials winner indices =
-    point numbers ∷ few numbers ∷ stop_bytes n stops ∷ trial_bytes trials ∷ room 88 winner ∷ room (4 * n) indices ∷ []
+    point numbers ∷ few sheet numbers ∷ stop_bytes n stops ∷ trial_bytes trials ∷ room 88 winner ∷ room (4 * n) indices ∷ []
 
 -- 2, 3, 4, 16, 5 to 8, 1, 9
 unfoldable pub order_of : RansacOptions → (marks stops trials : List ℕ) → (winner indices : ℕ) → List Test
 order_of o marks stops trials winner indices =
-    options_tests o ++ (mark_bytes marks ∷ later_tests (numbers_in marks) (length (marks_of (numbers_in marks))) (length stops) (length trials) winner indices)
+    options_tests o ++ (mark_bytes marks ∷ later_tests (numbers_in 4 marks) (length (marks_of (numbers_in 4 marks))) (length stops) (length trials) winner indices)
 
 unfoldable pub run_tests : Files → (winner indices : ℕ) → List Test
 run_tests f winner indices = options_record f.options ∷ order_of (options_of f.options) f.marks f.stops f.trials winner indices
@@ -68,10 +71,10 @@ unfoldable pub call_with : List Float → List ℕ → List ℕ → Call
 call_with numbers stops bytes = record { bytes = bytes; marks = numbers; stops = stops }
 
 unfoldable pub calls_of : Files → List Call
-calls_of f = map (call_with (numbers_in f.marks) (words_of f.stops)) (records_in f.trials)
+calls_of f = map (call_with (numbers_in 4 f.marks) (words_of f.stops)) (records_in f.trials)
 
 unfoldable pub judged_in : RansacOptions → ℕ → List Float → List ℕ → List (List ℕ) → List (Judged Model)
-judged_in o n numbers stops records = map (λ bytes. judge_of o n (call_with numbers stops bytes)) records
+judged_in o n numbers stops records = map (λ bytes. judge_of sheet no_camera o n (call_with numbers stops bytes)) records
 
 -- how the run stops
 unfoldable pub stop_of : RansacOptions → ℕ → List Float → List ℕ → List (List ℕ) → Stopped Model
@@ -99,7 +102,7 @@ later_answer o numbers n stops trials winner indices =
 unfoldable pub run_answer : Files → (winner indices : ℕ) → Answer (Winner Model)
 run_answer f winner indices =
     after_tests (first_failed (run_tests f winner indices))
-    (result_of (stop_of (options_of f.options) (length (marks_of (numbers_in f.marks))) (numbers_in f.marks) (words_of f.stops) (records_in f.trials)))
+    (result_of (stop_of (options_of f.options) (length (marks_of (numbers_in 4 f.marks))) (numbers_in 4 f.marks) (words_of f.stops) (records_in f.trials)))
 
 -- 0 or the refusal's number
 unfoldable pub number_of : Answer (Winner Model) → ℕ
@@ -113,7 +116,7 @@ unfoldable pub winner_bytes : Winner Model → List ℕ
 winner_bytes w = bytes_of 4 w.count ++ (bytes_of 4 w.number ++ (double_bytes w.rms ++ for_each double_bytes (model_numbers w.model)))
 
 unfoldable pub index_bytes : RansacOptions → List Float → Model → List ℕ
-index_bytes o numbers h = for_each (bytes_of 4) (indices_in o.thresh (distances_of o.ratio numbers h))
+index_bytes o numbers h = for_each (bytes_of 4) (indices_in o.thresh (distances_of sheet no_camera o.ratio numbers h))
 
 -- bytes over the front of a list, which is as long at least
 unfoldable pub laid_over : List ℕ → List ℕ → List ℕ
@@ -131,6 +134,6 @@ pub record Gave (a : Answer (Winner Model)) (o : RansacOptions) (numbers : List 
   pub indices_is : indices' ≡ written (λ w. index_bytes o numbers w.model) a indices
 
 -- how the trials ended, as the program has it: with the last state, or at a refused trial
-abbrev pub view_ran : Result State Refusal → Stopped Model
+abbrev pub view_ran : Result (State Sheet Model) Refusal → Stopped Model
 view_ran (Ok s) = stopped (book_of s)
 view_ran (Err e) = broken (Refused.number_of e)

@@ -7,7 +7,9 @@
 ghost use Rattle.std.specs.Prelude.{◌≡◌, ◌*◌, ◌%◌, ◌≤◌, length};
 ghost use Rattle.rule.specs.Answer.{told, refusal_in};
 ghost use Rattle.rule.specs.Order.{first_failed};
-ghost use Rattle.sheet.specs.Marks.{marks_of, marks_tests};
+ghost use Rattle.estimator.specs.Marks.{marks_tests};
+ghost use Rattle.sheet.specs.Marks.{marks_of};
+ghost use Rattle.sheet.specs.Sheets.{sheet};
 ghost use Rattle.records.specs.Options.{options_of, options_tests};
 ghost use Rattle.records.specs.Marks.{numbers_in};
 ghost use Rattle.pick.specs.Run.{view_winner};
@@ -18,6 +20,7 @@ use judge::Call;
 use pick::{State, Winner};
 use records::RansacOptions;
 use rule::Refusal;
+use sheet::{Model, Sheet};
 
 // Reads trials to the bound, the end of the list or the first that is refused. The marks are tested.
 #[tactic(auto, using(crate::proofs::Going::going))]
@@ -26,14 +29,14 @@ fn read_trials(
     marks: &[f64],
     stops: &[u32],
     trials: &[u8],
-) -> Result<State, Refusal>
+) -> Result<State<Sheet, Model>, Refusal>
     requires options_pass { 0 ≡ first_failed (options_tests o) }
-    requires marks_pass { 0 ≡ first_failed (marks_tests marks.now) }
+    requires marks_pass { 0 ≡ first_failed (marks_tests sheet marks.now) }
     ensures { view_ran result ≡ stop_of o (length (marks_of marks.now)) marks.now stops.now (records_in trials.now) }
 {
     // no heap, so there is a place for each mark of the longest run
     let mut squares = [0.0; 2000];
-    let mut s = pick::fresh_run(o, sheet::mark_count(marks));
+    let mut s = pick::fresh_run(Sheet, o, estimator::mark_count::<Sheet>(marks));
     let (parts, _) = trials.as_chunks::<152>();
     for bytes in parts {
         if s.counts.bound <= s.counts.read {
@@ -51,7 +54,7 @@ fn read_trials(
 
 // The winner's record, to the front of a list that has room for it.
 #[tactic(auto, using(crate::proofs::Giving::winner_laid))]
-fn put_winner(out: &mut [u8], w: Winner)
+fn put_winner(out: &mut [u8], w: Winner<Model>)
     requires { 88 ≤ length out.old }
     ensures { out.new ≡ laid_over (winner_bytes (view_winner w)) out.old }
 {
@@ -61,7 +64,7 @@ fn put_winner(out: &mut [u8], w: Winner)
 }
 
 // The tests after the marks' length, in order: refused with 6, 7, 8, 1 or 9.
-#[tactic(auto, unfolding(rule::specs::Order::first_failed, rule::specs::Order::room, crate::specs::Whole::later_tests, crate::specs::Whole::stop_bytes, crate::specs::Whole::trial_bytes, sheet::specs::Marks::point, sheet::specs::Marks::few), using(sheet::proofs::Places::count))]
+#[tactic(auto, unfolding(rule::specs::Order::first_failed, rule::specs::Order::room, crate::specs::Whole::later_tests, crate::specs::Whole::stop_bytes, crate::specs::Whole::trial_bytes, estimator::specs::Marks::point, estimator::specs::Marks::few), using(sheet::specs::Owed::counts))]
 fn check_later(
     numbers: &[f64],
     stops: &[u8],
@@ -71,10 +74,10 @@ fn check_later(
 ) -> Result<(), Refusal>
     ensures { refusal_in result ≡ first_failed (later_tests numbers.now (length (marks_of numbers.now)) (length stops.now) (length trials.now) (length winner.now) (length indices.now)) }
 {
-    if !sheet::all_in_range(numbers) {
+    if !estimator::all_in_range(numbers) {
         return Err(Refusal::Point);
     }
-    let n = sheet::mark_count(numbers);
+    let n = estimator::mark_count::<Sheet>(numbers);
     if n < 4 {
         return Err(Refusal::Few);
     }
@@ -100,7 +103,7 @@ fn won(
     trials: &[u8],
     winner: &[u8],
     indices: &[u8],
-) -> Result<Winner, Refusal>
+) -> Result<Winner<Model>, Refusal>
     requires options_pass { 0 ≡ first_failed (options_tests o) }
     requires numbers_len { length numbers.now % 4 ≡ 0 }
     requires numbers_len_bound { length numbers.now ≤ 8000 }
@@ -110,14 +113,14 @@ fn won(
     // no heap, so there is a place for each stop entry of the longest run
     let mut entries = [0; 2001];
     fields::read_words(stops, &mut entries);
-    let n = sheet::mark_count(numbers);
+    let n = estimator::mark_count::<Sheet>(numbers);
     let last = read_trials(o, numbers, &entries[..n + 1], trials)?;
     last.winner.ok_or(Refusal::NoWinner)
 }
 
 // Writes what a winner gives: its record, and the indices of its marks, four bytes each.
 #[tactic(auto, using(std::proofs::lemmas::Grind::common_steps, crate::proofs::Giving::indices_count, crate::proofs::Giving::indices_first, crate::proofs::Giving::indices_laid))]
-fn give(o: RansacOptions, w: Winner, numbers: &[f64], winner: &mut [u8], indices: &mut [u8])
+fn give(o: RansacOptions, w: Winner<Model>, numbers: &[f64], winner: &mut [u8], indices: &mut [u8])
     requires numbers_len_bound { length numbers.now ≤ 8000 }
     requires in_bounds { 88 ≤ length winner.old }
     requires numbers_in_bounds { 4 * length (marks_of numbers.now) ≤ length indices.old }
@@ -128,7 +131,7 @@ fn give(o: RansacOptions, w: Winner, numbers: &[f64], winner: &mut [u8], indices
     // no heap, so there is a place for each mark of the longest run
     let mut squares = [0.0; 2000];
     let mut places = [0; 2000];
-    let count = judge::write_inliers(o, w.model, numbers, &mut squares, &mut places);
+    let count = judge::write_inliers(Sheet, o, w.model, numbers, &mut squares, &mut places);
     fields::write_all(&places[..count], indices);
 }
 
@@ -142,7 +145,7 @@ pub fn salghemu_run(
     winner: &mut [u8],
     indices: &mut [u8],
 ) -> Result<(), Refusal>
-    ensures { Gave (run_answer (record { options = options.now; marks = marks.now; stops = stops.now; trials = trials.now }) (length winner.old) (length indices.old)) (options_of options.now) (numbers_in marks.now) winner.old indices.old (refusal_in result) winner.new indices.new }
+    ensures { Gave (run_answer (record { options = options.now; marks = marks.now; stops = stops.now; trials = trials.now }) (length winner.old) (length indices.old)) (options_of options.now) (numbers_in 4 marks.now) winner.old indices.old (refusal_in result) winner.new indices.new }
 {
     let o = records::read_options(options)?;
     records::validate(o)?;
@@ -151,7 +154,7 @@ pub fn salghemu_run(
     }
     // no heap, so there are four places for each mark of the longest run
     let mut room = [0.0; 8000];
-    records::read_marks(marks, &mut room);
+    records::read_marks::<Sheet>(marks, &mut room);
     let numbers = &room[..marks.len() / 8];
     let w = won(o, numbers, stops, trials, winner, indices)?;
     give(o, w, numbers, winner, indices);
