@@ -1,6 +1,6 @@
 -- A family of marks and candidates: what the picker has to be told of it, and the distances of a list of marks by it (document 01, 'Distance' and 'Trials', and
 -- document 02, orders 2, 3 and 5). Nothing else of the picker knows a mark, a candidate or a distance.
-use Rattle.std.specs.Prelude.{Bool, cond, List, map, ℕ, length, get_or, Option, Some, None, Float}
+use Rattle.std.specs.Prelude.{Bool, cond, List, map, ℕ, get_or, Option, Some, None, Float}
 use Rattle.std.specs.Float.Ieee.{le}
 use Rattle.rule.specs.Lists.{count_of}
 use Rattle.rule.specs.Order.{Test}

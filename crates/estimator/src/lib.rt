@@ -8,13 +8,12 @@ ghost use Rattle.std.specs.Float.Ieee.{to_bits};
 ghost use Rattle.rule.specs.Answer.{refusal_in, told};
 ghost use Rattle.rule.specs.Lists.{every};
 ghost use Rattle.rule.specs.Order.{first_failed};
-ghost use Rattle.numbers.specs.Finite.{all_finite};
-ghost use Rattle.estimator.specs.Entry.{measured, distance_answer};
 ghost use Rattle.numbers.specs.Constants.{farthest};
-ghost use Rattle.numbers.specs.Finite.{within};
+ghost use Rattle.numbers.specs.Finite.{all_finite, within};
 ghost use Rattle.estimator.specs.Family.{Family, mark_at, measure_of, squared_distance_of};
 ghost use Rattle.estimator.specs.Marks.{all_within, shape_tests, marks_tests};
 ghost use Rattle.estimator.specs.Numbers.{doubles_formed, model_read};
+ghost use Rattle.estimator.specs.Entry.{measured, distance_answer};
 
 use rule::Refusal;
 
