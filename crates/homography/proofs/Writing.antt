@@ -7,7 +7,6 @@ use borrow.Rule.Slice.PartMut.{put_mid}
 use lib.ListN.{length, set, replicate}
 use lib.Ieee.{Float}
 use Rattle.rule.specs.Lists.{replaced}
-use Rattle.rule.proofs.Lists.{part_replaced, replaced_twice}
 use Rattle.numbers.specs.Constants.{zero'}
 use Rattle.sheet.specs.Marks.{marks_of, mark_at, point_of, no_mark}
 use Rattle.sheet.specs.declared.marks.Mark.{Mark}
@@ -48,26 +47,12 @@ unfolding v_row
 v_wide p v = refl
 
 module _ (i : ℕ) (p q : Point) (s : List Float) (room : 18 * i + 18 ≤ length s) where
-  abbrev u : List Float
-  u = u_row p q.x
-
-  abbrev v : List Float
-  v = v_row p q.y
-
-  first : put_mid (9 * (2 * i)) (9 * (2 * i) + 9 - 9 * (2 * i)) s u ≡ replaced (18 * i) u s
-  first =
-      part_replaced (9 * (2 * i)) (9 * (2 * i) + 9) u s (ap (λ k. 9 * (2 * i) + k) (u_wide p q.x))
-      ∙ ap (λ k. replaced k u s) (let e : 9 * (2 * i) ≡ 18 * i = omega arith in e)
-
-  second : (t : List Float) → put_mid (9 * (2 * i) + 9) (9 * (2 * i) + 9 + 9 - (9 * (2 * i) + 9)) t v ≡ replaced (18 * i + length u) v t
-  second t =
-      part_replaced (9 * (2 * i) + 9) (9 * (2 * i) + 9 + 9) v t (ap (λ k. 9 * (2 * i) + 9 + k) (v_wide p q.y))
-      ∙ ap (λ k. replaced k v t) (rw (u_wide p q.x) (let e : 9 * (2 * i) + 9 ≡ 18 * i + 9 = omega arith in e))
-
   pub two_rows : {a b : List Float} → a ≡ row_at 0 p q.x → b ≡ row_at 3 p q.y
-      → put_mid (9 * (2 * i) + 9) (9 * (2 * i) + 9 + 9 - (9 * (2 * i) + 9)) (put_mid (9 * (2 * i)) (9 * (2 * i) + 9 - 9 * (2 * i)) s a) b ≡ replaced (18 * i) (u ++ v) s
+      → put_mid (9 * (2 * i) + 9) (9 * (2 * i) + 9 + 9 - (9 * (2 * i) + 9)) (put_mid (9 * (2 * i)) (9 * (2 * i) + 9 - 9 * (2 * i)) s a) b ≡ replaced (18 * i) (u_row p q.x ++ v_row p q.y) s
   two_rows d e =
-      rw (d, e, first_third p q.x, second_third p q.y, first) (second (replaced (18 * i) u s) ∙ replaced_twice (18 * i) u v s (rw (u_wide p q.x) (omega arith)))
+      let at : 9 * (2 * i) ≡ 18 * i = omega arith in
+      rw (d, e, first_third p q.x, second_third p q.y)
+      (Writing.two_parts (9 * (2 * i)) 9 (u_row p q.x) (v_row p q.y) s (u_wide p q.x) (v_wide p q.y) (omega (arith, room)) ∙ ap (λ k. replaced k (u_row p q.x ++ v_row p q.y) s) at)
 
 -- ---- all marks
 
