@@ -13,7 +13,9 @@ use Rattle.rule.proofs.Order.{passes, numbered, first_passed}
 use Rattle.rule.proofs.Lists.{places_at, one_by_one}
 use Rattle.numbers.specs.Constants.{farthest}
 use Rattle.numbers.specs.Finite.{abs_of, is_finite, all_finite, within}
-use Rattle.sheet.specs.Marks.{mark_numbers, shape, point, all_within, marks_tests}
+use Rattle.estimator.specs.Marks.{shape, point, all_within, marks_tests}
+use Rattle.sheet.specs.Marks.{mark_numbers}
+use Rattle.sheet.specs.Sheets.{sheet}
 use Rattle.sheet.specs.declared.marks.Mark.{Mark}
 use Rattle.fields.specs.Fields.{double_bytes}
 use Rattle.fields.specs.Packing.{size_of, packed}
@@ -37,9 +39,9 @@ mark_held m p q r s = rw (p, q, r, s) tt
 
 module _ (m : Mark) where
   -- a list of this mark alone has the right shape
-  one_mark : first_failed (marks_tests (mark_numbers m)) ≡ first_failed (point (mark_numbers m) ∷ [])
+  one_mark : first_failed (marks_tests sheet (mark_numbers m)) ≡ first_failed (point (mark_numbers m) ∷ [])
   unfolding marks_tests shape mark_numbers
-  one_mark = sym (passes (shape (mark_numbers m)) (point (mark_numbers m) ∷ []) refl)
+  one_mark = sym (passes (shape sheet (mark_numbers m)) (point (mark_numbers m) ∷ []) refl)
 
   pub packs : record_of mark_format m ≡ for_each double_bytes (mark_numbers m)
   unfolding record_of mark_format mark_layout packed double_bytes for_each mark_numbers
@@ -50,11 +52,11 @@ module _ (m : Mark) where
   above = tt
 
   module _ (entry : List ℕ) (p : fits binary64 m.x ≡ true) (q : fits binary64 m.y ≡ true) (r : fits binary64 m.u ≡ true) (s : fits binary64 m.v ≡ true) where
-    here : first_failed (mark_format.asks m ++ mark_format.tests (mark_format.fields m)) ≡ first_failed (marks_tests (mark_numbers m))
+    here : first_failed (mark_format.asks m ++ mark_format.tests (mark_format.fields m)) ≡ first_failed (marks_tests sheet (mark_numbers m))
     unfolding mark_format MarkRepresentable
     here = ap (λ l. first_failed (point l ∷ [])) (numbers_back (mark_numbers m) (mark_held m p q r s)) ∙ sym one_mark
 
-    pub mark_answer : writer_answer mark_format m entry ≡ answer_by (first_failed (marks_tests (mark_numbers m))) 32 (length entry)
+    pub mark_answer : writer_answer mark_format m entry ≡ answer_by (first_failed (marks_tests sheet (mark_numbers m))) 32 (length entry)
     mark_answer = answer_is mark_format m entry above ∙ rw (here, mark_size)
 
 -- ---- what the format keeps

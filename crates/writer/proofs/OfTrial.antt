@@ -11,24 +11,26 @@ use lib.ListN.{length, get_or, take, drop, replicate, length-append, length-drop
 use lib.Seq.{take_at, drop_at, take_all, drop-cons, drop-drop}
 use native.Mathlib.Nat.{mod-eq_of_lt}
 use Rattle.std.proofs.lemmas.List.Folds.{list_all-map}
-use lib.Ieee.{Float, nan, binary64, fits, to_bits}
+use lib.Ieee.{Float, nan, binary64, fits, of_bits, to_bits}
 use Rattle.rule.specs.Refusal.{RECORD}
 use Rattle.rule.specs.Order.{Test, first_failed}
 use Rattle.rule.specs.Lists.{every, for_each, filled}
 use Rattle.rule.proofs.Tests.{is_test}
-use Rattle.rule.proofs.Lists.{for_each-append, for_each-length}
+use Rattle.rule.proofs.Lists.{places_at, one_by_one, for_each-append, for_each-length}
 use Rattle.rule.proofs.Order.{numbered, first_passed}
 use Rattle.numbers.specs.Constants.{zero'}
 use Rattle.numbers.specs.Finite.{all_finite}
+use Rattle.estimator.specs.Numbers.{doubles_formed}
 use Rattle.sheet.specs.Distance.{model_numbers}
+use Rattle.sheet.specs.Sheets.{sheet}
 use Rattle.sheet.specs.declared.model.Model.{Model}
 use Rattle.book.specs.Score.{Trial, unfitted, fitted, refitted}
 use Rattle.fields.specs.Fields.{bytes_of, double_bytes}
 use Rattle.fields.specs.Packing.{size_of, packed}
 use Rattle.fields.proofs.Writing.{double_wide, laid_none, laid_more, laid_all}
 use Rattle.fields.proofs.Packing.{Fit, none, more, fit_length, fit-taken, fit-left, packed_even}
-use Rattle.records.specs.Trial.{trial_layout, fit_bits, refit_bits, model_from, marked, marks_formed, numbers_formed, doubles_formed, parts_formed, trial_sound, trial_from}
-use Rattle.records.proofs.Formed.{nine}
+use Rattle.records.specs.Trial.{trial_layout, fit_bits, refit_bits, model_from, marked, marks_formed, numbers_formed, parts_formed, trial_sound, trial_from}
+use Rattle.records.proofs.Placed.{trial_size}
 use Rattle.writer.specs.Format.{record_of, writer_answer, Faithful}
 use Rattle.writer.specs.Formats.{TrialNumbers, trial_numbers, trial_fields, nine_each, TrialRepresentable, trial_format}
 use Rattle.writer.proofs.Order.{answer_by, answer_is}
@@ -50,9 +52,9 @@ by_bits false l h = list_all-map (λ b. eqb b 0) (to_bits binary64) l
 
 -- ---- what stands in the fields
 
-trial_size : size_of trial_format.layout ≡ 152
-unfolding trial_format trial_layout size_of
-trial_size = refl
+format_size : size_of trial_format.layout ≡ 152
+unfolding trial_format
+format_size = trial_size 9
 
 module _ (n : TrialNumbers) (a : length n.fit ≡ 9) (b : length n.refit ≡ 9) where
   abbrev fit : List ℕ
@@ -67,23 +69,23 @@ module _ (n : TrialNumbers) (a : length n.fit ≡ 9) (b : length n.refit ≡ 9) 
   refit_wide : length refit ≡ 9
   refit_wide = length-map n.refit (to_bits binary64) ∙ b
 
-  fit_there : fit_bits (trial_fields n) ≡ fit
+  fit_there : fit_bits 9 (trial_fields n) ≡ fit
   unfolding fit_bits trial_fields
   fit_there = take_at fit refit 9 fit_wide
 
-  refit_there : refit_bits (trial_fields n) ≡ refit
+  refit_there : refit_bits 9 (trial_fields n) ≡ refit
   unfolding refit_bits trial_fields
   refit_there = ap (take 9) (drop_at fit refit 9 fit_wide) ∙ take_all 9 refit (rw refit_wide (omega arith))
 
   module _ (p : Doubles n.fit) (q : Doubles n.refit) where
-    sound_is : trial_sound (trial_fields n) ≡ parts_formed n.fit_mark n.refit_mark n.fit n.refit
+    sound_is : trial_sound 9 (trial_fields n) ≡ parts_formed n.fit_mark n.refit_mark n.fit n.refit
     unfolding trial_sound marked trial_fields parts_formed
     sound_is = rw (fit_there, refit_there, by_bits (eqb n.fit_mark 1) n.fit p, by_bits (eqb n.refit_mark 1) n.refit q)
 
 -- ---- the writer, by what its code asks
 
 abbrev form : List ℕ → Test
-form f = record { fails = not (trial_sound f); number = RECORD }
+form f = record { fails = not (trial_sound 9 f); number = RECORD }
 
 module _ (n : TrialNumbers) (entry : List ℕ) (p : Doubles n.fit) (q : Doubles n.refit) where
   abbrev sound : Bool
@@ -101,12 +103,12 @@ module _ (n : TrialNumbers) (entry : List ℕ) (p : Doubles n.fit) (q : Doubles 
       last false = refl
 
       by_refit : length n.fit ≡ 9 → (b : Bool) → eqb (length n.refit) 9 ≡ b
-          → cond (not b) RECORD (cond (not (trial_sound (trial_fields n))) RECORD 0) ≡ cond (b && sound) 0 RECORD
+          → cond (not b) RECORD (cond (not (trial_sound 9 (trial_fields n))) RECORD 0) ≡ cond (b && sound) 0 RECORD
       by_refit a true h = rw (sound_is n a (eqb-true (length n.refit) 9 h) p q) (last sound)
       by_refit a false h = refl
 
       by_fit : (b : Bool) → eqb (length n.fit) 9 ≡ b
-          → cond (not (b && eqb (length n.refit) 9)) RECORD (cond (not (trial_sound (trial_fields n))) RECORD 0) ≡ cond (b && (eqb (length n.refit) 9 && sound)) 0 RECORD
+          → cond (not (b && eqb (length n.refit) 9)) RECORD (cond (not (trial_sound 9 (trial_fields n))) RECORD 0) ≡ cond (b && (eqb (length n.refit) 9 && sound)) 0 RECORD
       by_fit true h = by_refit (eqb-true (length n.fit) 9 h) (eqb (length n.refit) 9) refl
       by_fit false h = refl
 
@@ -115,7 +117,7 @@ module _ (n : TrialNumbers) (entry : List ℕ) (p : Doubles n.fit) (q : Doubles 
   above = tt
 
   pub trial_answered : writer_answer trial_format n entry ≡ answer_by (cond formed 0 RECORD) 152 (length entry)
-  trial_answered = answer_is trial_format n entry above ∙ rw (here, trial_size)
+  trial_answered = answer_is trial_format n entry above ∙ rw (here, format_size)
 
 -- ---- the bytes
 
@@ -181,23 +183,27 @@ ordered a b h =
     at_most_one a b (leb→le a 1 (is_test (leb a 1) p.0)) (leb→le b 1 (is_test (leb b 1) q.0)) q.1
 
 -- what a sound record's fields say
-module _ (f : List ℕ) (sound : trial_sound f ≡ true) where
-  parts : (marks_formed (get_or f 0 0) (get_or f 1 0) ≡ true) × (get_or f 2 0 ≡ 0) × (numbers_formed (eqb (get_or f 0 0) 1) (fit_bits f) ≡ true) × (numbers_formed (eqb (get_or f 1 0) 1) (refit_bits f) ≡ true)
+module _ (f : List ℕ) (sound : trial_sound 9 f ≡ true) where
+  parts : (marks_formed (get_or f 0 0) (get_or f 1 0) ≡ true) × (get_or f 2 0 ≡ 0) × (numbers_formed (eqb (get_or f 0 0) 1) (fit_bits 9 f) ≡ true) × (numbers_formed (eqb (get_or f 1 0) 1) (refit_bits 9 f) ≡ true)
   unfolding trial_sound marked
   parts =
       let p = and_parts (marks_formed (get_or f 0 0) (get_or f 1 0)) _ sound in
       let q = and_parts (eqb (get_or f 2 0) 0) _ p.1 in
-      let r = and_parts (numbers_formed (eqb (get_or f 0 0) 1) (fit_bits f)) (numbers_formed (eqb (get_or f 1 0) 1) (refit_bits f)) q.1 in
+      let r = and_parts (numbers_formed (eqb (get_or f 0 0) 1) (fit_bits 9 f)) (numbers_formed (eqb (get_or f 1 0) 1) (refit_bits 9 f)) q.1 in
       (p.0, eqb→eq (get_or f 2 0) 0 (is_test (eqb (get_or f 2 0) 0) q.0), r.0, r.1)
 
 -- the trial of two marks and the bits of two lists
 abbrev trial_by : (a b : ℕ) (x y : List ℕ) → Trial Model
-trial_by a b x y = cond (eqb b 1) (refitted (model_from x) (model_from y)) (cond (eqb a 1) (fitted (model_from x)) unfitted)
+trial_by a b x y = cond (eqb b 1) (refitted (model_from sheet x) (model_from sheet y)) (cond (eqb a 1) (fitted (model_from sheet x)) unfitted)
 
 -- ---- numbers come back
 
+nine : (bits : List ℕ) → length bits ≡ 9 → model_numbers (model_from sheet bits) ≡ map (of_bits binary64) bits
+unfolding model_numbers model_from places_at
+nine bits size = sym (one_by_one 9 0 (map (of_bits binary64) bits) (of_bits binary64 0) (length-map bits (of_bits binary64) ∙ size))
+
 module _ (l : List Float) (size : length l ≡ 9) (doubles : T (every (fits binary64) l)) where
-  marked_back : model_numbers (model_from (map (to_bits binary64) l)) ≡ l
+  marked_back : model_numbers (model_from sheet (map (to_bits binary64) l)) ≡ l
   marked_back = nine (map (to_bits binary64) l) (length-map l (to_bits binary64) ∙ size) ∙ numbers_back l doubles
 
   unmarked_back : numbers_formed false (map (to_bits binary64) l) ≡ true → replicate 9 zero' ≡ l
@@ -215,10 +221,10 @@ numbers_of a b neither k l i j d e p q = ap₂ (handed 0 0) (unmarked_back k i d
 numbers_of a b alone k l i j d e p q = ap₂ (handed 1 0) (marked_back k i d) (unmarked_back l j e q)
 numbers_of a b both k l i j d e p q = ap₂ (handed 1 1) (marked_back k i d) (marked_back l j e)
 
-sound_of : (f : List ℕ) → first_failed (form f ∷ []) ≡ 0 → trial_sound f ≡ true
-sound_of f h = not-false (trial_sound f) (first_passed (form f) [] tt h).0
+sound_of : (f : List ℕ) → first_failed (form f ∷ []) ≡ 0 → trial_sound 9 f ≡ true
+sound_of f h = not-false (trial_sound 9 f) (first_passed (form f) [] tt h).0
 
-trial_back : (n : TrialNumbers) → TrialRepresentable n → first_failed (form (trial_fields n) ∷ []) ≡ 0 → trial_numbers (trial_from (trial_fields n)) ≡ n
+trial_back : (n : TrialNumbers) → TrialRepresentable n → first_failed (form (trial_fields n) ∷ []) ≡ 0 → trial_numbers (trial_from sheet (trial_fields n)) ≡ n
 unfolding TrialRepresentable trial_from marked trial_fields
 trial_back n h passed =
     let p = parts (trial_fields n) (sound_of (trial_fields n) passed) in
@@ -231,7 +237,7 @@ trial_back n h passed =
 -- ---- fields come back
 
 module _ (bits : List ℕ) (fit : Fit (replicate 9 8) bits) where
-  marked_again : numbers_formed true bits ≡ true → map (to_bits binary64) (model_numbers (model_from bits)) ≡ bits
+  marked_again : numbers_formed true bits ≡ true → map (to_bits binary64) (model_numbers (model_from sheet bits)) ≡ bits
   unfolding numbers_formed
   marked_again h = ap (map (to_bits binary64)) (nine bits (fit_length fit)) ∙ bits_again 9 bits fit h
 
@@ -248,7 +254,7 @@ fields_of_lem a b both x y i j p q = ap₂ (λ u w. 1 ∷ 1 ∷ 0 ∷ (u ++ w)) 
 
 -- the fields, part by part
 module _ (f : List ℕ) (size : length f ≡ 21) where
-  split : f ≡ get_or f 0 0 ∷ get_or f 1 0 ∷ get_or f 2 0 ∷ (fit_bits f ++ refit_bits f)
+  split : f ≡ get_or f 0 0 ∷ get_or f 1 0 ∷ get_or f 2 0 ∷ (fit_bits 9 f ++ refit_bits 9 f)
   unfolding fit_bits refit_bits
   split =
       drop-cons f 0 0 (omega arith)
@@ -259,12 +265,12 @@ module _ (f : List ℕ) (size : length f ≡ 21) where
           sym (take-append-drop 9 (drop 3 f))
           ∙ ap (λ r. take 9 (drop 3 f) ++ r) (drop-drop 9 3 f ∙ sym (take_all 9 (drop 12 f) (rw (length-drop 12 f) (omega (arith, size)))))
 
-trial_again : (f : List ℕ) → Fit trial_layout f → first_failed (form f ∷ []) ≡ 0 → trial_fields (trial_numbers (trial_from f)) ≡ f
+trial_again : (f : List ℕ) → Fit (trial_layout 9) f → first_failed (form f ∷ []) ≡ 0 → trial_fields (trial_numbers (trial_from sheet f)) ≡ f
 unfolding trial_from marked fit_bits refit_bits trial_layout
 trial_again f fit passed =
     let p = parts f (sound_of f passed) in
-    fields_of_lem (get_or f 0 0) (get_or f 1 0) (ordered (get_or f 0 0) (get_or f 1 0) p.0) (fit_bits f) (refit_bits f) (fit-taken 9 (fit-left 3 fit)) (fit-taken 9 (fit-left 12 fit)) p.2 p.3
-    ∙ ap (λ filler. get_or f 0 0 ∷ get_or f 1 0 ∷ filler ∷ (fit_bits f ++ refit_bits f)) (sym p.1)
+    fields_of_lem (get_or f 0 0) (get_or f 1 0) (ordered (get_or f 0 0) (get_or f 1 0) p.0) (fit_bits 9 f) (refit_bits 9 f) (fit-taken 9 (fit-left 3 fit)) (fit-taken 9 (fit-left 12 fit)) p.2 p.3
+    ∙ ap (λ filler. get_or f 0 0 ∷ get_or f 1 0 ∷ filler ∷ (fit_bits 9 f ++ refit_bits 9 f)) (sym p.1)
     ∙ sym (split f (fit_length fit))
 
 nine_read : (t : Trial Model) → first_failed (nine_each (trial_numbers t) ∷ []) ≡ 0
@@ -273,7 +279,7 @@ nine_read unfitted = refl
 nine_read (fitted m) = refl
 nine_read (refitted m k) = refl
 
-trial-fit : (n : TrialNumbers) → TrialRepresentable n → Fit trial_layout (trial_fields n)
+trial-fit : (n : TrialNumbers) → TrialRepresentable n → Fit (trial_layout 9) (trial_fields n)
 unfolding TrialRepresentable trial_layout trial_fields
 trial-fit n h =
     let filler : 0 < 256 ^ 6 = omega arith in
@@ -298,7 +304,7 @@ trial_laws =
       fit = trial-fit;
       asked = nine_held;
       back = trial_back;
-      again = λ f fit passed. (trial_again f fit passed, nine_read (trial_from f));
+      again = λ f fit passed. (trial_again f fit passed, nine_read (trial_from sheet f));
     }
 
 pub trial_faithful : Faithful trial_format

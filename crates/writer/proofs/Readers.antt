@@ -1,5 +1,5 @@
--- The formats' readers are the entries' own: the opening reads options as their format does, `read_trial` a trial, and a file of marks is read mark by mark,
--- so that records written one after the other make it. Assumes nothing.
+-- The formats' readers are the entries' own: the opening of any family reads options as their format does, `read_trial` a sheet's trial, and `read_marks` gives
+-- the numbers of a file's marks, so that records written one after the other make it. Assumes nothing.
 use mathlib.Core.Path.{◌≡◌, refl, sym, ap, ap₂, subst, ◌∙◌}
 use mathlib.Core.Bool.{Bool, true, false, not, ◌&&◌}
 use mathlib.Core.List.{List, [], ◌∷◌, ◌++◌, map, append-nil}
@@ -19,7 +19,10 @@ use Rattle.rule.proofs.Lists.{places_at, one_by_one, for_each-append, for_each-l
 use Rattle.rule.proofs.Tests.{clash}
 use Rattle.numbers.specs.Constants.{one, farthest}
 use Rattle.numbers.specs.Finite.{all_finite}
-use Rattle.sheet.specs.Marks.{marks_of, mark_numbers, no_mark, point, shape, all_within, few, marks_tests}
+use Rattle.estimator.specs.Family.{Family}
+use Rattle.estimator.specs.Marks.{point, shape, all_within, few, entries, marks_tests}
+use Rattle.sheet.specs.Marks.{marks_of, mark_numbers, no_mark, mark_at}
+use Rattle.sheet.specs.Sheets.{sheet}
 use Rattle.sheet.specs.declared.marks.Mark.{Mark}
 use Rattle.fields.specs.Fields.{fields_of, longs_of, doubles_of, all_bytes, bytes_of, double_bytes}
 use Rattle.fields.specs.Packing.{size_of, unpacked, packed}
@@ -27,12 +30,11 @@ use Rattle.fields.proofs.Writing.{double_wide}
 use Rattle.fields.proofs.Packing.{Fit, none, fit_length, unpacked-packed, unpacked_even, unpacked-fit, even_size, packed_even, packed-unpacked, every_append}
 use Rattle.records.specs.Options.{options_layout, layout_by, fields_in, options_sound, options_from, options_formed, options_record, options_of, options_tests, completed}
 use Rattle.records.specs.Trial.{trial_layout, trial_sound, trial_from, trial_formed, trial_record, trial_of, trial_answer}
-use Rattle.records.specs.Marks.{marks_in, numbers_in}
+use Rattle.records.specs.Marks.{numbers_in}
 use Rattle.records.specs.declared.options.RansacOptions.{RansacOptions}
 use Rattle.records.proofs.Placed.{short_size, options_size}
 use Rattle.records.proofs.Short.{completed_size, short_formed, short_options}
-use Rattle.records.proofs.Whole.{numbers-whole}
-use Rattle.judge.specs.Judging.{entries}
+use Rattle.records.proofs.Whole.{numbers-length, numbers-whole}
 use Rattle.pick.specs.Opening.{opening_tests, fresh_run, opening_answer, record_answer}
 use Rattle.writer.specs.Format.{sized, reads, as_numbers, numbers_read, record_of, writer_answer, written}
 use Rattle.writer.specs.Formats.{options_numbers, options_asked, options_format, mark_layout, mark_from, mark_format, trial_format}
@@ -70,32 +72,32 @@ module _ (l : List ℕ) where
       let d = decided-gives (first_failed (sized options_format l ∷ options_asked (unpacked options_layout l))) (sym e) in
       clash (rw (size, options_size)) (first_passed (sized options_format l) (options_asked (unpacked options_layout l)) tt d.0).0
 
-  module _ (marks : List Float) (stops : List ℕ) where
+  -- whatever the marks and the stops are, of any family
+  module _ {E M K : Type 0} (f : Family E M K) (e : E) (marks : List Float) (stops : List ℕ) where
     abbrev rest : List Test
-    rest = marks_tests marks ++ (few marks ∷ entries marks stops ∷ [])
+    rest = marks_tests f marks ++ (few f marks ∷ entries f marks stops ∷ f.tests e)
 
-    -- whatever the marks and the stops are
-    pub opening_refuses : (length l ≡ 32 → ⊥) → (k : ℕ) → reads options_format l ≡ refused k → refused k ≡ record_answer l marks stops
+    pub opening_refuses : (length l ≡ 32 → ⊥) → (k : ℕ) → reads options_format l ≡ refused k → refused k ≡ record_answer f e l marks stops
     unfolding record_answer opening_tests
-    opening_refuses long k e =
-        let d = decided-refused (first_failed asked) o (sym e ∙ options-tests long) in
+    opening_refuses long k h =
+        let d = decided-refused (first_failed asked) o (sym h ∙ options-tests long) in
         let failed : k ≡ first_failed (asked ++ rest) = d.0 ∙ one_failed asked rest d.1 in
         ap refused failed ∙ decided_some (first_failed (asked ++ rest)) _ (λ z. d.1 (sym d.0 ∙ failed ∙ z))
 
-    pub opening-reads : (p : RansacOptions) → reads options_format l ≡ gives p → record_answer l marks stops ≡ opening_answer p marks stops
+    pub opening-reads : (p : RansacOptions) → reads options_format l ≡ gives p → record_answer f e l marks stops ≡ opening_answer f e p marks stops
     unfolding record_answer opening_answer options_record
-    opening-reads p e =
-        let d = decided-gives (first_failed asked) (sym e ∙ options-tests (not_short p e)) in
+    opening-reads p h =
+        let d = decided-gives (first_failed asked) (sym h ∙ options-tests (not_short p h)) in
         let formed = (first_passed (options_record l) (options_tests o) tt d.0).0 in
-        ap (λ k. decided k (fresh_run o (length (marks_of marks)))) (sym (passes (options_record l) (opening_tests o marks stops) formed)) ∙ ap (λ q. opening_answer q marks stops) (sym d.1)
+        ap (λ k. decided k (fresh_run e o (length (f.marks_of marks)))) (sym (passes (options_record l) (opening_tests f e o marks stops) formed)) ∙ ap (λ q. opening_answer f e q marks stops) (sym d.1)
 
   -- ---- a record of 32 bytes
 
   module _ (size : length l ≡ 32) where
     -- the opening reads it as the one of 40 that has 1 behind it
-    pub opening_completes : (marks : List Float) (stops : List ℕ) → record_answer l marks stops ≡ record_answer (completed l) marks stops
+    pub opening_completes : {E M K : Type 0} (f : Family E M K) (e : E) (marks : List Float) (stops : List ℕ) → record_answer f e l marks stops ≡ record_answer f e (completed l) marks stops
     unfolding record_answer options_record
-    opening_completes marks stops = rw (short_formed l size, short_options l size)
+    opening_completes f e marks stops = rw (short_formed l size, short_options l size)
 
 -- and that one is what the writer makes of its numbers
 module _ (l : List ℕ) (size : length l ≡ 32) (bytes : T (all_bytes l)) (accepted : first_failed (options_record l ∷ options_tests (options_of l)) ≡ 0) where
@@ -117,9 +119,9 @@ module _ (l : List ℕ) (size : length l ≡ 32) (bytes : T (all_bytes l)) (acce
 
 -- ---- a trial
 
-pub trial-reads : (l : List ℕ) → reads trial_format l ≡ trial_answer l
+pub trial-reads : (l : List ℕ) → reads trial_format l ≡ trial_answer sheet l
 unfolding reads sized trial_format trial_answer trial_record trial_formed trial_of
-trial-reads l = ap (λ k. decided k (trial_from (unpacked trial_layout l))) (two_as_one (eqb (length l) (size_of trial_layout)) (trial_sound (unpacked trial_layout l)) RECORD [])
+trial-reads l = ap (λ k. decided k (trial_from sheet (unpacked (trial_layout 9) l))) (two_as_one (eqb (length l) (size_of (trial_layout 9))) (trial_sound 9 (unpacked (trial_layout 9) l)) RECORD [])
 
 -- ---- marks
 
@@ -144,24 +146,23 @@ module _ (l : List ℕ) (size : length l ≡ 32) where
   unfolding mark_layout unpacked
   f_wide = refl
 
-  mark_is : marks_in l ≡ mark_from f ∷ []
-  unfolding marks_in
-  mark_is = ap marks_of numbers_are ∙ four-marks f f_wide
+  numbers_in_lem : numbers_in 4 l ≡ map (of_bits binary64) f
+  numbers_in_lem = numbers-whole 4 l (omega (arith, size)) ∙ numbers_are
 
-  numbers_in_lem : numbers_in l ≡ map (of_bits binary64) f
-  numbers_in_lem = numbers-whole l (omega (arith, size)) ∙ numbers_are
+  mark_is : marks_of (numbers_in 4 l) ≡ mark_from f ∷ []
+  mark_is = ap marks_of numbers_in_lem ∙ four-marks f f_wide
 
-  mark_tests : first_failed (sized mark_format l ∷ point (map (of_bits binary64) f) ∷ []) ≡ first_failed (marks_tests (numbers_in l))
+  mark_tests : first_failed (sized mark_format l ∷ point (map (of_bits binary64) f) ∷ []) ≡ first_failed (marks_tests sheet (numbers_in 4 l))
   unfolding sized mark_format marks_tests shape
   mark_tests =
       let wide : length (map (of_bits binary64) f) ≡ 4 = length-map f (of_bits binary64) ∙ f_wide in
       sym (passes (sized mark_format l) (point (map (of_bits binary64) f) ∷ []) (rw (mark_size, eq-eqb (length l) 32 size)))
-      ∙ passes (shape (map (of_bits binary64) f)) (point (map (of_bits binary64) f) ∷ []) (rw wide)
-      ∙ ap (λ xs. first_failed (marks_tests xs)) (sym numbers_in_lem)
+      ∙ passes (shape sheet (map (of_bits binary64) f)) (point (map (of_bits binary64) f) ∷ []) (rw wide)
+      ∙ ap (λ xs. first_failed (marks_tests sheet xs)) (sym numbers_in_lem)
 
   -- a file of one mark is read and tested as the format has it
-  pub mark_reads : reads mark_format l ≡ decided (first_failed (marks_tests (numbers_in l))) (get_or (marks_in l) 0 no_mark)
-  unfolding reads mark_format
+  pub mark_reads : reads mark_format l ≡ decided (first_failed (marks_tests sheet (numbers_in 4 l))) (mark_at (numbers_in 4 l) 0)
+  unfolding reads mark_format mark_at
   mark_reads = ap₂ (λ k m. decided k m) mark_tests (ap (λ ms. get_or ms 0 no_mark) (sym mark_is))
 
 -- ---- a file of marks
@@ -207,10 +208,23 @@ module _ (n : ℕ) where
       ∙ ap (packed even) (bits_again n (unpacked even l) fit (ap (λ bits. all_finite (map (of_bits binary64) bits)) (sym same) ∙ finite))
       ∙ packed-unpacked even l long t
 
+numbers_wide : (ms : List Mark) → length (for_each mark_numbers ms) ≡ 4 * length ms
+unfolding mark_numbers
+numbers_wide ms = for_each-length mark_numbers 4 (λ m. refl) ms
+
 marks_again : (ms : List Mark) → marks_of (for_each mark_numbers ms) ≡ ms
 unfolding marks_of for_each mark_numbers
 marks_again [] = refl
 marks_again (m ∷ ms) = ap (λ rest. m ∷ rest) (marks_again ms)
+
+-- and the numbers of whole marks are their marks' numbers
+marks_back : (xs : List Float) → length xs % 4 ≡ 0 → for_each mark_numbers (marks_of xs) ≡ xs
+unfolding for_each mark_numbers marks_of
+marks_back [] h = refl
+marks_back (x ∷ []) h = absurd (omega (arith, h))
+marks_back (x ∷ y ∷ []) h = absurd (omega (arith, h))
+marks_back (x ∷ y ∷ u ∷ []) h = absurd (omega (arith, h))
+marks_back (x ∷ y ∷ u ∷ v ∷ rest) h = ap (λ t. x ∷ y ∷ u ∷ v ∷ t) (marks_back rest (omega (arith, h)))
 
 held-numbers : (ms : List Mark) → T (every (λ m. every (fits binary64) (mark_numbers m)) ms) → T (every (fits binary64) (for_each mark_numbers ms))
 unfolding for_each
@@ -220,14 +234,18 @@ held-numbers (m ∷ ms) t =
     (and_i (every (fits binary64) (mark_numbers m)) (every (fits binary64) (for_each mark_numbers ms)) (and_l (every (fits binary64) (mark_numbers m)) _ t) (held-numbers ms (and_r (every (fits binary64) (mark_numbers m)) _ t)))
 
 -- marks that are written one after the other are the marks of the file
-pub marks-written : (ms : List Mark) → T (every (λ m. every (fits binary64) (mark_numbers m)) ms) → marks_in (for_each (record_of mark_format) ms) ≡ ms
-unfolding marks_in
-marks-written ms t = ap (λ l. marks_of (doubles_of l)) (records_are ms) ∙ ap marks_of (doubles_back (length (for_each mark_numbers ms)) (for_each mark_numbers ms) refl (held-numbers ms t)) ∙ marks_again ms
+pub marks-written : (ms : List Mark) → T (every (λ m. every (fits binary64) (mark_numbers m)) ms) → marks_of (numbers_in 4 (for_each (record_of mark_format) ms)) ≡ ms
+marks-written ms t =
+    let numbers = for_each mark_numbers ms in
+    let wide : length (for_each double_bytes numbers) ≡ 8 * (4 * length ms) = for_each-length double_bytes 8 double_wide numbers ∙ ap (λ n. 8 * n) (numbers_wide ms) in
+    let read : numbers_in 4 (for_each double_bytes numbers) ≡ numbers =
+    numbers-whole 4 (for_each double_bytes numbers) (rw wide (omega arith)) ∙ doubles_back (length numbers) numbers refl (held-numbers ms t)
+    in
+    ap (λ l. marks_of (numbers_in 4 l)) (records_are ms) ∙ ap marks_of read ∙ marks_again ms
 
 -- and a file of accepted marks is what is written for its marks
-pub marks-made : (l : List ℕ) → T (all_bytes l) → length l % 32 ≡ 0 → all_within farthest (numbers_in l) ≡ true → for_each (record_of mark_format) (marks_in l) ≡ l
-unfolding numbers_in
+pub marks-made : (l : List ℕ) → T (all_bytes l) → length l % 32 ≡ 0 → all_within farthest (numbers_in 4 l) ≡ true → for_each (record_of mark_format) (marks_of (numbers_in 4 l)) ≡ l
 marks-made l t h w =
-    records_are (marks_in l)
-    ∙ ap (for_each double_bytes) (numbers-whole l h)
-    ∙ doubles_again (length l / 8) l (omega (arith, h)) t (ap all_finite (sym (numbers-whole l h)) ∙ within_finite farthest (numbers_in l) w)
+    records_are (marks_of (numbers_in 4 l))
+    ∙ ap (for_each double_bytes) (marks_back (numbers_in 4 l) (rw (numbers-length 4 l) (omega arith)) ∙ numbers-whole 4 l h)
+    ∙ doubles_again (length l / 8) l (omega (arith, h)) t (ap all_finite (sym (numbers-whole 4 l h)) ∙ within_finite farthest (numbers_in 4 l) w)

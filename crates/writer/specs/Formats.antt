@@ -1,4 +1,4 @@
--- The three kinds of record that are written: options, a mark, a trial of a sheet. Doubles stand in the fields by their bits.
+-- The three kinds of record that are written: options, and of a sheet a mark and a trial. Doubles stand in the fields by their bits.
 use Rattle.std.specs.Prelude.{◌≡◌, not, cond, ◌&&◌, List, [], ◌∷◌, ◌++◌, map, ℕ, ◌<◌, T, eqb, length, get_or, replicate, Float}
 use Rattle.std.specs.Float.{binary64}
 use Rattle.std.specs.Float.Ieee.{fits, of_bits, to_bits}
@@ -6,8 +6,10 @@ use Rattle.rule.specs.Refusal.{RECORD, SHAPE}
 use Rattle.rule.specs.Order.{Test}
 use Rattle.rule.specs.Lists.{every}
 use Rattle.numbers.specs.Constants.{zero'}
-use Rattle.sheet.specs.Marks.{mark_numbers, point}
+use Rattle.estimator.specs.Marks.{point}
+use Rattle.sheet.specs.Marks.{mark_numbers}
 use Rattle.sheet.specs.Distance.{model_numbers}
+use Rattle.sheet.specs.Sheets.{sheet}
 use Rattle.sheet.specs.declared.marks.Mark.{Mark}
 use Rattle.sheet.specs.declared.model.Model.{Model}
 use Rattle.book.specs.Score.{Trial, unfitted, fitted, refitted}
@@ -129,10 +131,10 @@ TrialRepresentable n =
 unfoldable pub trial_format : Format TrialNumbers (Trial Model)
 trial_format =
     record {
-      layout = trial_layout;
+      layout = trial_layout 9;
       other_length = RECORD;
-      tests = λ f. record { fails = not (trial_sound f); number = RECORD } ∷ [];
-      value = trial_from;
+      tests = λ f. record { fails = not (trial_sound 9 f); number = RECORD } ∷ [];
+      value = trial_from sheet;
       numbers = trial_numbers;
       fields = trial_fields;
       asks = λ n. nine_each n ∷ [];

@@ -1,5 +1,6 @@
 // The writer of records (document 02, order 1): options, a mark or a trial from plain numbers, one
-// record at a time, into a lent buffer. What a reader of the record would refuse isn't written.
+// record at a time, into a lent buffer. What a reader of the record would refuse isn't written. By order 5
+// marks and trials stay the sheet's; options are any family's.
 #![tactic(auto)]
 
 mod mark;
