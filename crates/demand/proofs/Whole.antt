@@ -93,7 +93,7 @@ module _ (f : Files) (winner indices : ℕ) (all : first_failed (run_tests f win
 
   shape_fine : (shape sheet l).fails ≡ false
   shape_fine =
-      let long = numbers-length f.marks in
+      let long = numbers-length 4 f.marks in
       let s = fine.short in
       shaped sheet l (omega (arith, long)) (omega (arith, long, s))
 
@@ -142,7 +142,7 @@ module _ (f : Files) (r : ℕ) (winner indices winner' indices' : List ℕ) wher
 
     -- the winner of the calls one by one, and their indices
     module _ (s₀ s : State Sheet Model) (answers : List Told) (read : ℕ) (opening : Opening sheet no_camera p numbers (words_of f.stops) s₀) (chain : Called (Tried sheet) s₀ (take read (calls_of f)) answers s) where
-      listed : ((s.estimator ≡ no_camera) × ((s.options ≡ p) × (s.n ≡ m))) × Kept (rule_of p) (judgement_of sheet no_camera p m) (take read (calls_of f)) (map view_told answers) (book_of s)
+      listed : ((s.estimator ≡ no_camera) × (s.options ≡ p) × (s.n ≡ m)) × Kept (rule_of p) (judgement_of sheet no_camera p m) (take read (calls_of f)) (map view_told answers) (book_of s)
       listed = after_list sheet 4 wide counts no_camera p numbers (words_of f.stops) s₀ opening s (take read (calls_of f)) answers chain
 
       book_is : book_of s ≡ book_after (rule_of p) (fresh (rule_of p)) (take read js)
