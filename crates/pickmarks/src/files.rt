@@ -3,6 +3,7 @@
 ghost use Rattle.std.specs.Prelude.{◌≡◌, ◌≤◌};
 ghost use Rattle.pickmarks.specs.Files.{number_count, entry_count};
 
+use sheet::Sheet;
 use std::fs;
 use std::rt::Files;
 
@@ -67,7 +68,7 @@ pub(crate) fn read_marks<'b, R: Files>(rt: &R, numbers: &'b mut [f64; 8000]) -> 
     let mut bytes = [0u8; 64000];
     let len = read_mark_bytes(rt, &mut bytes);
     // of a file that is longer than any, the opening is given one number, so no matter which
-    records::read_marks(&bytes[..len.min(64000)], numbers);
+    records::read_marks::<Sheet>(&bytes[..len.min(64000)], numbers);
     &numbers[..number_count(len)]
 }
 

@@ -2,6 +2,7 @@
 // is its bits, in 16 hexadecimal digits.
 use booking::Counts;
 use pick::{Outcome, State, Winner};
+use sheet::{Model, Sheet};
 use std::{fmt, io};
 
 // A double, as its bits. (`cases` has one that writes a NaN as such; here it is its bits.)
@@ -46,7 +47,12 @@ fn print_indices(rt: &impl Print, indices: &[u32]) -> io::Result<()> {
 // The lines of a winner that is held. The indices are never refused here: the marks are those of the
 // opening, and there is a place for each (`indices-written` of crates/pick/proofs/Accepted.antt).
 #[tactic(auto, using(std::proofs::lemmas::Grind::common_steps, pick::proofs::Written::count_inside))]
-fn print_held(rt: &impl Print, s: State, w: Winner, marks: &[f64]) -> io::Result<()> {
+fn print_held(
+    rt: &impl Print,
+    s: State<Sheet, Model>,
+    w: Winner<Model>,
+    marks: &[f64],
+) -> io::Result<()> {
     println!(rt; "winner {} {} {}", w.number, w.count, Bits(w.rms))?;
     // no heap, so there is a place for each mark of the longest run
     let mut indices = [0u32; 2000];
@@ -56,7 +62,11 @@ fn print_held(rt: &impl Print, s: State, w: Winner, marks: &[f64]) -> io::Result
     }
 }
 
-pub(crate) fn print_winner(rt: &impl Print, s: State, marks: &[f64]) -> io::Result<()> {
+pub(crate) fn print_winner(
+    rt: &impl Print,
+    s: State<Sheet, Model>,
+    marks: &[f64],
+) -> io::Result<()> {
     match s.winner {
         None => rt.print("winner none\n"),
         Some(w) => print_held(rt, s, w, marks),

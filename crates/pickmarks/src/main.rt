@@ -10,6 +10,7 @@ use judge::Call;
 use lines::TrialLine;
 use pick::{Outcome, State, Tried};
 use rule::Refusal;
+use sheet::{Model, Sheet};
 use std::io::Read;
 use std::rt::Files;
 use std::{fs, io};
@@ -44,7 +45,11 @@ impl<'a> Run<'a> {
     // refused for its length. The opening tested the marks, and `step` doesn't test them again: it
     // answers as `trial` does (`by_steps` of crates/demand/specs/Demand.antt). No heap, so there are
     // places for a record, and a number of those that were read.
-    fn next_trial<F: Read>(self, file: &mut F, s: State) -> Option<Tried> {
+    fn next_trial<F: Read>(
+        self,
+        file: &mut F,
+        s: State<Sheet, Model>,
+    ) -> Option<Tried<Sheet, Model>> {
         let mut record = [0u8; 152];
         let len = reading::read_full(file, &mut record);
         if len == 0 {
@@ -61,7 +66,12 @@ impl<'a> Run<'a> {
     // All trials up to the end of the run or of the file, or a refusal, and their lines; the last state.
     // Each turn reads one, and the bound is never above 100,000, the ceiling on max_iters, so the turns
     // suffice.
-    fn print_trials<F: Read>(self, rt: &impl Print, file: &mut F, s: State) -> Result<State, Stop> {
+    fn print_trials<F: Read>(
+        self,
+        rt: &impl Print,
+        file: &mut F,
+        s: State<Sheet, Model>,
+    ) -> Result<State<Sheet, Model>, Stop> {
         let mut state = s;
         for _ in 0..100_000 {
             if state.counts.is_closed() {
@@ -84,7 +94,11 @@ impl<'a> Run<'a> {
     }
 
     // The trials of trials.bin; a file that can't be opened counts as empty.
-    fn print_file(self, rt: &(impl Files + Print), s: State) -> Result<State, Stop> {
+    fn print_file(
+        self,
+        rt: &(impl Files + Print),
+        s: State<Sheet, Model>,
+    ) -> Result<State<Sheet, Model>, Stop> {
         match fs::open(rt, "trials.bin") {
             Ok(mut file) => self.print_trials(rt, &mut file, s),
             Err(_) => Ok(s),
@@ -93,7 +107,7 @@ impl<'a> Run<'a> {
 
     // What is printed for an options record.
     fn print(self, rt: &(impl Files + Print), record: &[u8]) -> Result<(), Stop> {
-        let s = pick::open_record(record, self.marks, self.stops)?;
+        let s = pick::open_record(Sheet, record, self.marks, self.stops)?;
         rt.print("trial outcome count rms\n")?;
         let last = self.print_file(rt, s)?;
         lines::print_winner(rt, last, self.marks)?;

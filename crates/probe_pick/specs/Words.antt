@@ -3,7 +3,9 @@ use Rattle.std.specs.Prelude.{Bool, cond, not, List, [], ◌∷◌, ◌++◌, ma
 use Rattle.std.specs.Float.{binary64}
 use Rattle.std.specs.Float.Ieee.{of_bits, to_bits}
 use Rattle.sheet.specs.Distance.{model_numbers}
+use Rattle.sheet.specs.Sheets.{no_camera}
 use Rattle.sheet.specs.declared.model.Model.{Model}
+use Rattle.sheet.specs.declared.model.Sheet.{Sheet}
 use Rattle.book.specs.Book.{Held, none, held, Outcome, is_refused, is_empty, is_few, is_held, is_won}
 use Rattle.records.specs.declared.options.RansacOptions.{RansacOptions}
 use Rattle.pick.specs.Run.{Run, Answer}
@@ -28,7 +30,7 @@ abbrev pub made_words : RansacOptions → List ℕ
 made_words o = option_words o ++ ratio_word o
 
 -- words 5 to 10
-abbrev pub count_words : Run → List ℕ
+abbrev pub count_words : Run Sheet Model → List ℕ
 count_words r = r.n ∷ r.book.read ∷ r.book.empties ∷ r.book.fews ∷ r.book.scores ∷ r.book.bound ∷ []
 
 -- words 11 to 23: zeros where no winner is held
@@ -36,7 +38,7 @@ unfoldable pub winner_words : Held Model → List ℕ
 winner_words none = 0 ∷ 0 ∷ 0 ∷ 0 ∷ 0 ∷ 0 ∷ 0 ∷ 0 ∷ 0 ∷ 0 ∷ 0 ∷ 0 ∷ 0 ∷ []
 winner_words (held w) = 1 ∷ w.count ∷ w.number ∷ bits w.rms ∷ map bits (model_numbers w.model)
 
-unfoldable pub run_words : Run → List ℕ
+unfoldable pub run_words : Run Sheet Model → List ℕ
 run_words r = option_words r.options ++ count_words r ++ winner_words r.book.winner ++ ratio_word r.options
 
 -- which outcome, the refusal's number or the count, and the root mean square
@@ -48,7 +50,7 @@ outcome_words (is_held count rms) = 3 ∷ count ∷ bits rms ∷ []
 outcome_words (is_won count rms) = 4 ∷ count ∷ bits rms ∷ []
 
 -- words 25 to 27, and 28 for the number beyond
-unfoldable pub tried_words : Answer → List ℕ
+unfoldable pub tried_words : Answer Sheet Model → List ℕ
 tried_words t = (run_words t.run ++ outcome_words t.outcome) ++ (t.beyond ∷ [])
 
 -- ---- reading
@@ -91,9 +93,10 @@ options_in l =
       ratio = number_at l 24;
     }
 
-unfoldable pub run_in : List ℕ → Run
+unfoldable pub run_in : List ℕ → Run Sheet Model
 run_in l =
     record {
+      estimator = no_camera;
       options = options_in l;
       n = get_or l 5 0;
       book =

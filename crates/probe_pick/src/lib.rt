@@ -9,6 +9,7 @@ mod writing;
 ghost use Rattle.std.specs.Prelude.{◌≡◌};
 ghost use Rattle.rule.specs.Answer.{told};
 ghost use Rattle.rule.specs.Lists.{filled};
+ghost use Rattle.sheet.specs.Sheets.{sheet, no_camera};
 ghost use Rattle.records.specs.Marks.{numbers_in};
 ghost use Rattle.records.specs.Options.{usual_options};
 ghost use Rattle.pick.specs.Run.{view_state};
@@ -20,12 +21,13 @@ use judge::Call;
 use pick::State;
 use records::RansacOptions;
 use rule::Refusal;
+use sheet::{Model, Sheet};
 
 // The answer of a call that has too few words to read, or too few places for those that it writes.
 const NO_WORDS: u32 = 0xffff_ffff;
 
 // An opening's answer as a number, with the state's words written where it is not refused.
-fn put_opened(opened: Result<State, Refusal>, state: &mut [u64]) -> u32
+fn put_opened(opened: Result<State<Sheet, Model>, Refusal>, state: &mut [u64]) -> u32
     ensures value { result ≡ opened_number (told view_state opened) state.old }
     ensures state_after { state.new ≡ opened_after (told view_state opened) state.old }
 {
@@ -40,10 +42,10 @@ fn put_opened(opened: Result<State, Refusal>, state: &mut [u64]) -> u32
 
 #[unsafe(no_mangle)]
 pub extern "C" fn probe_open(options: &[u8], marks: &[f64], stops: &[u32], state: &mut [u64]) -> u32
-    ensures value { result ≡ opened_number (record_answer options.now marks.now stops.now) state.old }
-    ensures state_after { state.new ≡ opened_after (record_answer options.now marks.now stops.now) state.old }
+    ensures value { result ≡ opened_number (record_answer sheet no_camera options.now marks.now stops.now) state.old }
+    ensures state_after { state.new ≡ opened_after (record_answer sheet no_camera options.now marks.now stops.now) state.old }
 {
-    put_opened(pick::open_record(options, marks, stops), state)
+    put_opened(pick::open_record(Sheet, options, marks, stops), state)
 }
 
 #[unsafe(no_mangle)]
@@ -58,8 +60,8 @@ pub extern "C" fn probe_open_options(
     stops: &[u32],
     state: &mut [u64],
 ) -> u32
-    ensures value { result ≡ opened_number (opening_answer (options_of thresh confidence max_iters min_inliers refit ratio) marks.now stops.now) state.old }
-    ensures state_after { state.new ≡ opened_after (opening_answer (options_of thresh confidence max_iters min_inliers refit ratio) marks.now stops.now) state.old }
+    ensures value { result ≡ opened_number (opening_answer sheet no_camera (options_of thresh confidence max_iters min_inliers refit ratio) marks.now stops.now) state.old }
+    ensures state_after { state.new ≡ opened_after (opening_answer sheet no_camera (options_of thresh confidence max_iters min_inliers refit ratio) marks.now stops.now) state.old }
 {
     let options = RansacOptions {
         thresh,
@@ -69,7 +71,7 @@ pub extern "C" fn probe_open_options(
         refit,
         ratio,
     };
-    put_opened(pick::open(options, marks, stops), state)
+    put_opened(pick::open(Sheet, options, marks, stops), state)
 }
 
 // The options with their defaults: a state's first five words, and the ratio's.
@@ -125,7 +127,7 @@ pub extern "C" fn probe_winner_indices(state: &[u64], marks: &[f64], indices: &m
 
 #[unsafe(no_mangle)]
 pub extern "C" fn probe_read_marks(bytes: &[u8], numbers: &mut [f64])
-    ensures { numbers.new ≡ filled (numbers_in bytes.now) numbers.old }
+    ensures { numbers.new ≡ filled (numbers_in 4 bytes.now) numbers.old }
 {
-    records::read_marks(bytes, numbers);
+    records::read_marks::<Sheet>(bytes, numbers);
 }

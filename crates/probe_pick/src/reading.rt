@@ -6,7 +6,7 @@ ghost use Rattle.probe_pick.specs.Words.{small_at, number_at, flag_at, model_in,
 use booking::Counts;
 use pick::{State, Winner};
 use records::RansacOptions;
-use sheet::Model;
+use sheet::{Model, Sheet};
 use std::array;
 
 fn word_at(words: &[u64], i: usize) -> u64
@@ -41,7 +41,7 @@ fn model_in(words: &[u64]) -> Model
 }
 
 #[tactic(auto, unfolding(crate::specs::Words::winner_in))]
-fn winner_in(words: &[u64]) -> Option<Winner>
+fn winner_in(words: &[u64]) -> Option<Winner<Model>>
     ensures { view_best result ≡ winner_in words.now }
 {
     flag_at(words, 11).then(|| Winner {
@@ -67,10 +67,11 @@ fn options_in(words: &[u64]) -> RansacOptions
 }
 
 #[tactic(auto, unfolding(crate::specs::Words::run_in))]
-pub(crate) fn state_in(words: &[u64]) -> State
+pub(crate) fn state_in(words: &[u64]) -> State<Sheet, Model>
     ensures { view_state result ≡ run_in words.now }
 {
     State {
+        estimator: Sheet,
         options: options_in(words),
         n: word_at(words, 5) as usize,
         counts: Counts {

@@ -3,12 +3,14 @@ ghost use Rattle.std.specs.Prelude.{◌≡◌, map};
 ghost use Rattle.rule.specs.Lists.{filled};
 ghost use Rattle.root.specs.Root.{root_of};
 ghost use Rattle.book.specs.Score.{count_in, squares_in, rms_of};
-ghost use Rattle.measure.specs.Distances.{squares_of, beyond_found};
+ghost use Rattle.estimator.specs.Family.{squares_of};
+ghost use Rattle.sheet.specs.Sheets.{sheet, no_camera};
+ghost use Rattle.measure.specs.Found.{beyond_found};
 ghost use Rattle.score.specs.Places.{index_count, indexed};
 ghost use Rattle.score.specs.Less.{less_of};
 ghost use Rattle.probe_pick.specs.Scoring.{model_of, if_counted, below_of};
 
-use sheet::Model;
+use sheet::{Model, Sheet};
 
 #[tactic(auto, unfolding(crate::specs::Scoring::if_counted))]
 #[unsafe(no_mangle)]
@@ -27,11 +29,11 @@ pub extern "C" fn probe_squared_residuals(
     squares: &mut [f64],
     counting: bool,
 ) -> usize
-    ensures value { result ≡ if_counted counting (beyond_found marks.now (model_of h0 h1 h2 h3 h4 h5 h6 h7 h8) squares.old) }
-    ensures squares_after { squares.new ≡ filled (squares_of ratio marks.now (model_of h0 h1 h2 h3 h4 h5 h6 h7 h8)) squares.old }
+    ensures value { result ≡ if_counted counting (beyond_found sheet no_camera marks.now (model_of h0 h1 h2 h3 h4 h5 h6 h7 h8) squares.old) }
+    ensures squares_after { squares.new ≡ filled (squares_of sheet no_camera ratio marks.now (model_of h0 h1 h2 h3 h4 h5 h6 h7 h8)) squares.old }
 {
     let h = Model::from([h0, h1, h2, h3, h4, h5, h6, h7, h8]);
-    let beyond = measure::squared_residuals(h, ratio, marks, squares);
+    let beyond = measure::squared_residuals(Sheet, h, ratio, marks, squares);
     if counting { beyond } else { 0 }
 }
 

@@ -7,7 +7,7 @@ ghost use Rattle.probe_pick.specs.Words.{bits, made_words, count_words, winner_w
 
 use pick::{Outcome, State, Tried, Winner};
 use records::RansacOptions;
-use sheet::Model;
+use sheet::{Model, Sheet};
 
 // The words of options by themselves: those at a state's front, and the ratio's.
 pub(crate) fn made_words(o: RansacOptions) -> [u64; 6]
@@ -23,7 +23,7 @@ pub(crate) fn made_words(o: RansacOptions) -> [u64; 6]
     ]
 }
 
-fn count_words(s: State) -> [u64; 6]
+fn count_words(s: State<Sheet, Model>) -> [u64; 6]
     ensures { result ≡ count_words (view_state s) }
 {
     let c = s.counts;
@@ -45,7 +45,7 @@ fn model_words(m: Model) -> [u64; 9]
 }
 
 #[tactic(auto, unfolding(crate::specs::Words::winner_words))]
-fn held_words(w: Winner) -> [u64; 13]
+fn held_words(w: Winner<Model>) -> [u64; 13]
     ensures { result ≡ winner_words (held (view_winner w)) }
 {
     let mut words = [0; 13];
@@ -60,7 +60,7 @@ fn held_words(w: Winner) -> [u64; 13]
 }
 
 #[tactic(auto, unfolding(crate::specs::Words::winner_words))]
-fn winner_words(best: Option<Winner>) -> [u64; 13]
+fn winner_words(best: Option<Winner<Model>>) -> [u64; 13]
     ensures { result ≡ winner_words (view_best best) }
 {
     best.map_or([0; 13], held_words)
@@ -69,7 +69,7 @@ fn winner_words(best: Option<Winner>) -> [u64; 13]
 // A state's words. (The ratio's, the last, before the winner's: the other way round the check doesn't
 // find the list. So in a trial's.)
 #[tactic(auto, unfolding(crate::specs::Words::run_words))]
-pub(crate) fn state_words(s: State) -> [u64; 25]
+pub(crate) fn state_words(s: State<Sheet, Model>) -> [u64; 25]
     ensures { result ≡ run_words (view_state s) }
 {
     let options = made_words(s.options);
@@ -95,7 +95,7 @@ fn outcome_words(outcome: Outcome) -> [u64; 3]
 
 // A trial's: the new state's, the outcome's and the number beyond.
 #[tactic(auto, unfolding(crate::specs::Words::tried_words))]
-pub(crate) fn tried_words(t: Tried) -> [u64; 29]
+pub(crate) fn tried_words(t: Tried<Sheet, Model>) -> [u64; 29]
     ensures { result ≡ tried_words (view_tried t) }
 {
     let mut words = [0; 29];
