@@ -19,7 +19,7 @@ pub extern "C" fn salghemu_run(
     winner: &mut [u8],
     indices: &mut [u8],
 ) -> u32
-    ensures { Gave (run_answer (record { options = options.now; marks = marks.now; stops = stops.now; trials = trials.now }) (length winner.old) (length indices.old)) (options_of options.now) (numbers_in marks.now) winner.old indices.old result winner.new indices.new }
+    ensures { Gave (run_answer (record { options = options.now; marks = marks.now; stops = stops.now; trials = trials.now }) (length winner.old) (length indices.old)) (options_of options.now) (numbers_in 4 marks.now) winner.old indices.old result winner.new indices.new }
 {
     rule::number(salghemu::salghemu_run(options, marks, stops, trials, winner, indices))
 }
