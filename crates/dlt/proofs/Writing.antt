@@ -1,7 +1,8 @@
 -- The rows of the marks in the lent list, twenty-four places each. Assumes nothing.
 use mathlib.Core.Path.{◌≡◌, refl, ap, ◌∙◌}
 use mathlib.Core.List.{List, [], ◌∷◌, ◌++◌}
-use Prim.Native.Nat.{ℕ, zero, suc, ◌+◌, ◌-◌, ◌*◌, ◌≤◌, ◌<◌}
+use Prim.Native.Nat.{ℕ, ◌+◌, ◌-◌, ◌*◌, ◌≤◌, ◌<◌}
+use native.Mathlib.Numerals.{add-one}
 use native.Mathlib.Omega.{arith}
 use borrow.Rule.Slice.PartMut.{put_mid}
 use lib.ListN.{length, set, replicate}
@@ -22,13 +23,7 @@ use Rattle.dlt.specs.Rows.{row_at, u_row, v_row, mark_rows, rows_list}
 pub stored : (at : ℕ) (a b c d e f g h : Float) → at + 4 ≤ 8
     → set (set (set (set (set (set (set (set (replicate 12 zero') at a) (at + 1) b) (at + 2) c) (at + 3) d) 8 e) 9 f) 10 g) 11 h
     ≡ replaced at (a ∷ b ∷ c ∷ d ∷ []) (zero' ∷ zero' ∷ zero' ∷ zero' ∷ zero' ∷ zero' ∷ zero' ∷ zero' ∷ []) ++ (e ∷ f ∷ g ∷ h ∷ [])
-unfolding replaced
-stored zero a b c d e f g h k = refl
-stored (suc zero) a b c d e f g h k = refl
-stored (suc (suc zero)) a b c d e f g h k = refl
-stored (suc (suc (suc zero))) a b c d e f g h k = refl
-stored (suc (suc (suc (suc zero)))) a b c d e f g h k = refl
-stored (suc (suc (suc (suc (suc at))))) a b c d e f g h k = absurd (omega (arith, k))
+stored at a b c d e f g h k = rw (add-one at, Writing.two_on at, Writing.three_on at) (Writing.row_stored 8 at (a ∷ b ∷ c ∷ d ∷ []) (e ∷ f ∷ g ∷ h ∷ []) zero' k)
 
 -- ---- one mark: a row's part after the other's
 

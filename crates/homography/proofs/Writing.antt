@@ -1,7 +1,8 @@
 -- The rows of the marks in the lent list, eighteen places each. Assumes nothing.
 use mathlib.Core.Path.{◌≡◌, refl, ap, ◌∙◌}
 use mathlib.Core.List.{List, [], ◌∷◌, ◌++◌}
-use Prim.Native.Nat.{ℕ, zero, suc, ◌+◌, ◌-◌, ◌*◌, ◌≤◌, ◌<◌}
+use Prim.Native.Nat.{ℕ, ◌+◌, ◌-◌, ◌*◌, ◌≤◌, ◌<◌}
+use native.Mathlib.Numerals.{add-one}
 use native.Mathlib.Omega.{arith}
 use borrow.Rule.Slice.PartMut.{put_mid}
 use lib.ListN.{length, set, replicate}
@@ -21,12 +22,7 @@ use Rattle.homography.specs.Rows.{row_at, u_row, v_row, mark_rows, rows_list}
 
 pub stored : (at : ℕ) (a b c d e f : Float) → at + 3 ≤ 6
     → set (set (set (set (set (set (replicate 9 zero') at a) (at + 1) b) (at + 2) c) 6 d) 7 e) 8 f ≡ replaced at (a ∷ b ∷ c ∷ []) (zero' ∷ zero' ∷ zero' ∷ zero' ∷ zero' ∷ zero' ∷ []) ++ (d ∷ e ∷ f ∷ [])
-unfolding replaced
-stored zero a b c d e f h = refl
-stored (suc zero) a b c d e f h = refl
-stored (suc (suc zero)) a b c d e f h = refl
-stored (suc (suc (suc zero))) a b c d e f h = refl
-stored (suc (suc (suc (suc at)))) a b c d e f h = absurd (omega (arith, h))
+stored at a b c d e f h = rw (add-one at, Writing.two_on at) (Writing.row_stored 6 at (a ∷ b ∷ c ∷ []) (d ∷ e ∷ f ∷ []) zero' h)
 
 -- ---- one mark: a row's part after the other's
 

@@ -1,15 +1,52 @@
--- What is written for each element of a list, from the front of a lent list on, w places each. Assumes nothing.
-use Rattle.std.proofs.Common.{◌≡◌, ℕ, ◌+◌, ◌-◌, ◌*◌, ◌<◌, ◌≤◌, List, length, get_or, take, drop, append_assoc, sym, ap, refl, ◌∙◌, ◌++◌, arith}
+-- What is stored to a lent list and written into its parts; and w places for each element of a list, from the front on. Assumes nothing.
+use Rattle.std.proofs.Common.{◌≡◌, ℕ, ◌+◌, ◌-◌, ◌*◌, ◌<◌, ◌≤◌, suc, List, length, get_or, take, drop, append_assoc, sym, ap, refl, ◌∙◌, ◌++◌, arith}
+use Rattle.std.proofs.lemmas.List.{take-append-le, drop-append-le, replicate-append-replicate}
+use mathlib.Core.List.{append-nil}
 use native.Mathlib.Nat.{le_of_lt}
+use lib.ListN.{replicate, length-append, length-replicate, drop_of_length-le}
 use borrow.Rule.Slice.PartMut.{put_mid}
-use lib.Seq.{sets, sets-eq, take-length}
+use lib.Seq.{sets, sets-eq, take-length, take_at}
 use Rattle.rule.specs.Lists.{for_each, replaced}
-use Rattle.rule.proofs.Lists.{Written, none, same, more, part_replaced, replaced_twice}
+use Rattle.rule.proofs.Lists.{Written, none, same, more, part_replaced, replaced-length, replaced_twice}
 
 -- stored one after the other, from place k on
 pub stored : {B : Type 0} (xs s : List B) (k : ℕ) → k + length xs ≤ length s → sets s k xs ≡ replaced k xs s
 unfolding replaced
 stored xs s k h = sets-eq xs s k h ∙ append_assoc (take k s) xs (drop (k + length xs) s)
+
+-- the places behind k, as they are stored to
+pub two_on : (k : ℕ) → k + 2 ≡ suc (suc k)
+two_on k = omega arith
+
+pub three_on : (k : ℕ) → k + 3 ≡ suc (suc (suc k))
+three_on k = omega arith
+
+-- a row that is cleared and stored to: xs from place k on, within its first m places, and ys behind them
+module _ {B : Type 0} (m k : ℕ) (xs ys : List B) (nil : B) (within : k + length xs ≤ m) where
+  abbrev Front : List B
+  Front = replicate m nil
+
+  abbrev Back : List B
+  Back = replicate (length ys) nil
+
+  front_stored : sets (Front ++ Back) k xs ≡ replaced k xs Front ++ Back
+  unfolding replaced
+  front_stored =
+      let long : length Front ≡ m = length-replicate m nil in
+      stored xs (Front ++ Back) k (rw length-append (omega (arith, within, long)))
+      ∙ rw (take-append-le k Front Back (omega (arith, within, long)), drop-append-le (k + length xs) Front Back (omega (arith, within, long)), append_assoc, append_assoc)
+
+  back_stored : (front : List B) → length front ≡ m → sets (front ++ Back) m ys ≡ front ++ ys
+  unfolding replaced
+  back_stored front long =
+      let all : length (front ++ Back) ≡ m + length ys = rw (length-append, length-replicate (length ys) nil, long) in
+      stored ys (front ++ Back) m (omega (arith, all))
+      ∙ rw (take_at front Back m long, drop_of_length-le (front ++ Back) {i = m + length ys} (omega (arith, all)), append-nil ys)
+
+  pub row_stored : sets (sets (replicate (m + length ys) nil) k xs) m ys ≡ replaced k xs Front ++ ys
+  row_stored =
+      rw (← replicate-append-replicate m (length ys) nil, front_stored)
+      (back_stored (replaced k xs Front) (replaced-length k xs Front (rw (length-replicate m nil) within) ∙ length-replicate m nil))
 
 -- two parts that are lent one after the other, w places each, from place k on
 module _ {B : Type 0} (k w : ℕ) (xs ys s : List B) (x_wide : length xs ≡ w) (y_wide : length ys ≡ w) (room : k + w + w ≤ length s) where

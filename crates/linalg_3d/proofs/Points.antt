@@ -1,5 +1,5 @@
 -- The points of a list of marks: their means, and what is written for them. Assumes nothing.
-use Rattle.std.proofs.Common.{◌≡◌, ℕ, ◌+◌, ◌*◌, ◌<◌, ◌≤◌, suc, List, length, get_or, set, refl, sym, ◌∙◌, add-one, arith}
+use Rattle.std.proofs.Common.{◌≡◌, ℕ, ◌+◌, ◌*◌, ◌<◌, ◌≤◌, List, length, get_or, set, refl, sym, ◌∙◌, add-one, arith}
 use lib.Ieee.{Float}
 use lib.ListN.{get_or-map}
 use Rattle.root.specs.Root.{root_of}
@@ -39,9 +39,6 @@ triple_wide c p = refl
 abbrev pub written : Change → List Float → List Float → ℕ → List Float
 written change l entry i = Writing.written (triple change) 3 (points l) entry i
 
-two_on : (k : ℕ) → k + 2 ≡ suc (suc k)
-two_on k = omega arith
-
 module _ (change : Change) (l entry : List Float) where
   pub written_none : written change l entry 0 ≡ entry
   written_none = Writing.written_none (triple change) 3 (points l) entry (triple_wide change)
@@ -52,7 +49,7 @@ module _ (change : Change) (l entry : List Float) where
   unfolding triple_of
   written_more i h room =
       let long = Writing.written_long (triple change) 3 (points l) entry (triple_wide change) i h room in
-      rw (add-one (3 * i), two_on (3 * i))
+      rw (add-one (3 * i), Writing.two_on (3 * i))
       (Writing.written_more (triple change) 3 (points l) entry (triple_wide change) no_point (point_at l) (read l) i h
       ∙ sym (Writing.stored (triple change (point_at l i)) (written change l entry i) (3 * i) (omega (arith, long, room, h))))
 
