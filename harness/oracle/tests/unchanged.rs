@@ -39,6 +39,25 @@ fn every_compiled_file_is_unchanged() {
     }
 }
 
+/// Between its first line and its last, a file has the lifted ones, but for
+/// what was replaced.
+#[test]
+fn lifted_lines_are_unchanged() {
+    assert_eq!(vision_geometry::LIFTED.len(), 1);
+    for (path, module) in vision_geometry::LIFTED {
+        let mut file = String::from_utf8(read(path)).expect("text");
+        assert_eq!(sha256::hex(file.as_bytes()), sums()[path], "{path}");
+        for (old, new) in vision_geometry::dlt::INSTEAD {
+            assert_eq!(file.matches(old).count(), 1, "{path}: {old}");
+            file = file.replace(old, new);
+        }
+        assert!(
+            file.contains(wrap::unwrap(module)),
+            "{path} has other lines"
+        );
+    }
+}
+
 #[test]
 fn the_sum_is_sha_256() {
     let empty = "e3b0c44298fc1c149afbf4c8996fb92427ae41e4649b934ca495991b7852b855";
