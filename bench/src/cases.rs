@@ -4,22 +4,38 @@
 //! the Rust's own stop list would end early, at the largest confidence below 1
 //! too. A poor candidate agrees with too few marks to be scored.
 
+use compare::families::Proved;
 use oracle::book::Options;
 use oracle::cases::{Random, power_of_two, step};
+use oracle::family_cases::seen;
 use oracle::pick_cases::Case;
-use oracle::scoring::{rms, squared};
+use oracle::scoring::rms;
 use oracle::sheet_cases::IDENTITY;
-use oracle::{Model, Trial, stop_list};
+use oracle::{Family, Model, Numbers, Sheet, Trial, stop_list};
 
-pub const MARKS: usize = 2000;
+/// The most marks of a sheet.
+pub const MARKS: usize = Sheet::MOST;
 pub const TRIALS: usize = 1000;
 pub const THRESH: f64 = 2.0;
 /// Under this the distances are 01's. Neither side knows that it is 1 where it
 /// is timed, so both multiply by it.
 pub const RATIO: f64 = 1.0;
 
-/// What a sheet's marks go through to become pixels.
+/// A family that is timed.
+pub trait Timed: Proved {
+    /// What marks go through to become pixels: by what they are measured, and
+    /// the model.
+    fn through() -> (Self, Self::Model);
+}
+
+/// A sheet's.
 const TRUE: Model = [1.02, 0.03, 15.0, -0.02, 0.98, -7.0, 1e-5, -2e-5, 1.0];
+
+impl Timed for Sheet {
+    fn through() -> (Self, Model) {
+        (Self, TRUE)
+    }
+}
 
 /// The marks that a good candidate agrees with.
 pub fn good(n: usize) -> usize {
@@ -37,12 +53,15 @@ enum Good {
 
 /// The good ones are spread over the list; the others are at least 50 pixels
 /// off, in u and in v.
-fn marks(random: &mut Random, n: usize, kind: Good) -> Vec<f64> {
-    let h = TRUE;
+fn marks<F: Timed>(random: &mut Random, n: usize, kind: Good) -> Vec<f64> {
+    let (family, h) = F::through();
     let mut list = Vec::new();
     for i in 0..n {
-        let [x, y] = [0; 2].map(|_| 1000.0 * random.unit());
-        let s = (h[6] * x + h[7] * y) + h[8];
+        let coordinates = F::WIDTH - 2;
+        let point = F::Mark::from_fn(|k| match k < coordinates {
+            true => 1000.0 * random.unit(),
+            false => 0.0,
+        });
         let rank = i * 1103 % n;
         let mut away = || 0.5 * (random.unit() - 0.5);
         let off = match kind {
@@ -50,19 +69,18 @@ fn marks(random: &mut Random, n: usize, kind: Good) -> Vec<f64> {
             Good::Near => [away(), away()],
             Good::Graded => [(rank as f64 + 0.5) * 4.0 / good(n) as f64, 0.0],
         };
-        let u = ((h[0] * x + h[1] * y) + h[2]) / s + off[0];
-        let v = ((h[3] * x + h[4] * y) + h[5]) / s + off[1];
-        list.extend([x, y, u, v]);
+        list.extend_from_slice(seen(&family, &h, point, off).as_ref());
     }
     list
 }
 
 /// A candidate within a fraction of a pixel, or one that is far off.
-fn candidate(random: &mut Random, good: bool) -> Model {
-    let mut h = TRUE;
+fn candidate<F: Timed>(random: &mut Random, good: bool) -> F::Model {
+    let (_, mut h) = F::through();
     let off = if good { 0.2 } else { 3000.0 };
-    h[2] += off * (0.5 + random.unit());
-    h[5] += off * (0.5 + random.unit());
+    for row in 1..3 {
+        h.as_mut()[row * F::ROW - 1] += off * (0.5 + random.unit());
+    }
     h
 }
 
@@ -76,8 +94,8 @@ fn graded(n: usize, count: usize) -> Model {
     h
 }
 
-fn case(marks: Vec<f64>, trials: Vec<Trial>, refit: bool) -> Case {
-    let n = marks.len() / 4;
+fn case<F: Timed>(marks: Vec<f64>, trials: Vec<Trial<F::Model>>, refit: bool) -> Case<F> {
+    let n = marks.len() / F::WIDTH;
     let options = Options {
         thresh: THRESH,
         confidence: step(1.0, -1),
@@ -87,8 +105,9 @@ fn case(marks: Vec<f64>, trials: Vec<Trial>, refit: bool) -> Case {
         ratio: RATIO,
     };
     Case {
+        family: F::through().0,
         options,
-        stops: stop_list(options.confidence, n),
+        stops: stop_list::<F>(options.confidence, n),
         trials,
         marks,
     }
@@ -102,14 +121,14 @@ fn fitted(fit: Model) -> Trial {
 }
 
 /// Every `every`-th trial is good; all good ones have the same count.
-pub fn same_counts(n: usize, every: usize, refit: bool) -> Case {
+pub fn same_counts<F: Timed>(n: usize, every: usize, refit: bool) -> Case<F> {
     let random = &mut Random::new(70);
-    let marks = marks(random, n, Good::Near);
+    let marks = marks::<F>(random, n, Good::Near);
     let trials = (0..TRIALS).map(|i| {
         let good = i.is_multiple_of(every);
         Trial {
-            fit: Some(candidate(random, good)),
-            refit: refit.then(|| candidate(random, good)),
+            fit: Some(candidate::<F>(random, good)),
+            refit: refit.then(|| candidate::<F>(random, good)),
         }
     });
     case(marks, trials.collect(), refit)
@@ -118,21 +137,21 @@ pub fn same_counts(n: usize, every: usize, refit: bool) -> Case {
 /// All good, from 12 marks to 799, and none with the winner's count.
 pub fn other_counts() -> Case {
     let random = &mut Random::new(71);
-    let marks = marks(random, MARKS, Good::Graded);
+    let marks = marks::<Sheet>(random, MARKS, Good::Graded);
     let counts = (0..TRIALS).map(|i| 12 + (i * 577 + 300) % 788);
     let trials = counts.map(|count| fitted(graded(MARKS, count)));
     case(marks, trials.collect(), false)
 }
 
 /// All good with the same count, the one with the lowest rms first.
-pub fn best_first() -> Case {
-    let mut case = same_counts(MARKS, 1, false);
-    let marks = case.mark_list().to_vec();
-    let by_rms = |trial: &Trial| {
+pub fn best_first<F: Timed>() -> Case<F> {
+    let mut case = same_counts::<F>(F::MOST, 1, false);
+    let (family, marks) = (case.family, case.mark_list().to_vec());
+    let by_rms = |trial: &Trial<F::Model>| {
         let h = trial.fit.expect("good");
-        let all = marks.iter().map(|mark| squared(&h, mark, RATIO));
+        let all = marks.iter().map(|mark| family.squared(&h, mark, RATIO));
         let squares: Vec<f64> = all.collect();
-        rms(THRESH, &squares, good(MARKS) as u32).to_bits()
+        rms(THRESH, &squares, good(F::MOST) as u32).to_bits()
     };
     case.trials.sort_by_cached_key(by_rms);
     case

@@ -9,6 +9,7 @@ mod sheet;
 mod walk;
 mod write;
 
+use oracle::Sheet;
 use std::time::Instant;
 
 const ROUNDS: usize = 15;
@@ -36,7 +37,9 @@ fn main() {
     println!();
     sheet::run();
     println!();
-    walk::run();
+    walk::run::<Sheet>();
+    println!();
+    walk::rms_of_a_list::<Sheet>();
     println!();
     run::run();
     println!();

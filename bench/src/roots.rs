@@ -9,9 +9,9 @@
 //! Rust takes one for each mark of each model counted, and one for the rms of
 //! each trial scored.
 
-use oracle::Model;
 use oracle::pick_cases::Case;
-use oracle::scoring::{Limits, places, rms, squared};
+use oracle::scoring::{Limits, places, rms};
+use oracle::{Family, Model};
 
 pub struct Roots {
     limits: Limits,
@@ -36,7 +36,9 @@ pub fn follow(case: &Case) -> Roots {
     };
     let squares = |h: &Model| -> Vec<f64> {
         let (marks, ratio) = (case.mark_list().iter(), case.options.ratio);
-        marks.map(|mark| squared(h, mark, ratio)).collect()
+        marks
+            .map(|mark| case.family.squared(h, mark, ratio))
+            .collect()
     };
     let mut winner = Vec::new();
     for trial in &case.trials {

@@ -50,7 +50,7 @@ fn times(case: &Case) -> [f64; 2] {
         }));
         times[1].push(nanoseconds(passes, || {
             let (marks, ratio, trials) = black_box((case.mark_list(), ratio, &case.trials));
-            black_box(ransac_fit(marks, &options, ratio, trials));
+            black_box(ransac_fit(case.family, marks, &options, ratio, trials));
         }));
     }
     times.map(median)

@@ -4,8 +4,8 @@ use crate::all_came;
 use oracle::book::{Best, Book, Call, Options, Outcome, trial_record};
 use oracle::cases::step;
 use oracle::pick_cases::Case;
-use oracle::scoring::{Limits, places, squared};
-use oracle::{Model, Trial, distance};
+use oracle::scoring::{Limits, places};
+use oracle::{Family, Model, Trial, distance};
 
 /// What came up in runs of close candidates.
 #[derive(Debug, Default)]
@@ -83,8 +83,7 @@ impl Close {
         for trial in &case.trials {
             let before = book.winner;
             let answer = book.call(
-                &case.options,
-                case.n() as u64,
+                &case.fed(),
                 &Call {
                     record: &trial_record(trial),
                     marks: &case.marks,
@@ -107,7 +106,7 @@ impl Close {
 }
 
 fn squares(case: &Case, h: &Model) -> Vec<f64> {
-    let ratio = case.options.ratio;
     let all = case.mark_list().iter();
-    all.map(|mark| squared(h, mark, ratio)).collect()
+    all.map(|mark| case.family.squared(h, mark, case.options.ratio))
+        .collect()
 }

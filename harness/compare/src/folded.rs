@@ -2,8 +2,8 @@
 //! the words of their calls and answers.
 
 use crate::all_came;
-use oracle::book::{Call, RATIO_AT, Words, trial_of_record};
-use oracle::{Mark, Model, beyond, distance};
+use oracle::book::{Call, State, trial_of_record};
+use oracle::{Family, Numbers};
 
 /// How often an answer that isn't refused told of marks beyond.
 #[derive(Debug, Default)]
@@ -20,7 +20,7 @@ pub struct Folded {
     /// The refit stands, and another number is beyond under it: more, or fewer.
     refit_more: usize,
     refit_fewer: usize,
-    /// At a mark s is 0, a NaN, -inf, or +inf: that mark isn't beyond.
+    /// At a mark s, or Z, is 0, a NaN, -inf, or +inf: that mark isn't beyond.
     zero_s: usize,
     nan_s: usize,
     minus_inf_s: usize,
@@ -33,13 +33,13 @@ pub struct Folded {
     nan_thresh: usize,
 }
 
-fn count_of(marks: &[Mark], is: impl Fn(&Mark) -> bool) -> usize {
+fn count_of<K>(marks: &[K], is: impl Fn(&K) -> bool) -> usize {
     marks.iter().filter(|mark| is(mark)).count()
 }
 
 impl Folded {
     /// Counts a call on a state, with the last four words of its answer.
-    pub fn add(&mut self, state: &Words, call: &Call, told: &[u64]) {
+    pub fn add<F: Family>(&mut self, state: &[u64], call: &Call, told: &[u64]) {
         let &[outcome, _, _, told] = told else {
             panic!("four words, not {told:?}");
         };
@@ -47,51 +47,58 @@ impl Folded {
         if outcome < 2 {
             return;
         }
-        let trial = trial_of_record(call.record).expect("it isn't refused");
-        let marks: &[Mark] = call.marks.as_chunks().0;
+        let state = State::<F>::of_words(state);
+        let trial = trial_of_record::<F>(call.record).expect("it isn't refused");
+        let marks = F::Mark::chunks(call.marks).0;
         let fit = trial.fit.expect("it isn't empty");
-        self.kinds_of_s(&fit, marks);
+        self.kinds_of_s::<F>(&fit, marks);
         if told == 0 {
-            let ratio = f64::from_bits(state[RATIO_AT]);
-            let any =
-                |is: fn(f64) -> bool| marks.iter().any(|mark| is(distance(&fit, mark, ratio)));
-            self.far += usize::from(any(f64::is_infinite));
-            self.nan += usize::from(any(f64::is_nan));
+            let by = |mark| state.family.distance(&fit, mark, state.options.ratio);
+            let any = |is: fn(f64) -> bool| usize::from(marks.iter().any(|mark| is(by(mark))));
+            self.far += any(f64::is_infinite);
+            self.nan += any(f64::is_nan);
         } else {
-            self.told(state, outcome, (told as usize) < marks.len());
+            self.told(&state, outcome, (told as usize) < marks.len());
         }
-        if let (3.., 1, Some(refit)) = (outcome, state[4], &trial.refit) {
-            self.refit(state, refit, marks, told as usize);
+        if let (3.., true, Some(refit)) = (outcome, state.options.refit, &trial.refit) {
+            self.refit(&state, refit, marks, told as usize);
         }
     }
 
     /// Some marks are told of, or all.
-    fn told(&mut self, state: &Words, outcome: u64, some: bool) {
-        let thresh = f64::from_bits(state[0]);
+    fn told<F: Family>(&mut self, state: &State<F>, outcome: u64, some: bool) {
+        let thresh = state.options.thresh;
         self.few += usize::from(outcome == 2);
         self.held += usize::from(outcome == 3);
         self.won += usize::from(outcome == 4);
         self.all += usize::from(!some);
         self.some += usize::from(some);
-        self.some_scored += usize::from(some && outcome > 2 && state[3] > 0);
+        self.some_scored += usize::from(some && outcome > 2 && state.options.min_inliers > 0);
         self.inf_thresh += usize::from(thresh == f64::INFINITY);
         self.nan_thresh += usize::from(thresh.is_nan());
     }
 
     /// A refit that is asked for, where the fit is scored.
-    fn refit(&mut self, state: &Words, refit: &Model, marks: &[Mark], told: usize) {
-        let [thresh, ratio] = [0, RATIO_AT].map(|place| f64::from_bits(state[place]));
-        let within = count_of(marks, |mark| distance(refit, mark, ratio) <= thresh);
-        if within >= state[3] as u32 as usize {
-            let under = count_of(marks, |mark| beyond(refit, mark));
+    fn refit<F: Family>(
+        &mut self,
+        state: &State<F>,
+        refit: &F::Model,
+        marks: &[F::Mark],
+        told: usize,
+    ) {
+        let options = &state.options;
+        let by = |mark: &F::Mark| state.family.distance(refit, mark, options.ratio);
+        let within = count_of(marks, |mark| by(mark) <= options.thresh);
+        if within >= options.min_inliers as usize {
+            let under = count_of(marks, |mark| F::beyond(refit, mark));
             self.refit_more += usize::from(under > told);
             self.refit_fewer += usize::from(under < told);
         }
     }
 
-    fn kinds_of_s(&mut self, h: &Model, marks: &[Mark]) {
+    fn kinds_of_s<F: Family>(&mut self, h: &F::Model, marks: &[F::Mark]) {
         let any = |is: fn(f64) -> bool| {
-            let mut all = marks.iter().map(|m| (h[6] * m[0] + h[7] * m[1]) + h[8]);
+            let mut all = marks.iter().map(|mark| F::divisor(h, mark));
             usize::from(all.any(is))
         };
         self.zero_s += any(|s| s == 0.0);

@@ -1,6 +1,7 @@
 //! What the comparison tests share.
 
 pub mod close;
+pub mod families;
 pub mod folded;
 pub mod ratios;
 
@@ -43,7 +44,7 @@ pub fn is_long(count: usize) -> bool {
 
 /// How often each answer came: the refusals by their numbers, 0 for accepted.
 #[derive(Default)]
-pub struct Tally([usize; 17]);
+pub struct Tally([usize; 18]);
 
 impl Tally {
     pub fn add(&mut self, number: u32) {
@@ -68,4 +69,17 @@ impl Tally {
 /// Whether each of the counted things came up.
 pub fn all_came(counts: &[usize]) -> bool {
     counts.iter().all(|&count| count > 0)
+}
+
+/// Makes tests of functions that take a family: one for each.
+#[macro_export]
+macro_rules! for_each_family {
+    ($($name:ident),+ $(,)?) => {
+        mod sheets {
+            $(#[test]
+            fn $name() {
+                super::$name::<oracle::Sheet>();
+            })+
+        }
+    };
 }

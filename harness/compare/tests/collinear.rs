@@ -1,9 +1,11 @@
 //! The proved collinear test against `points_are_collinear`.
 
 use compare::{cases, is_long};
+use oracle::Sheet;
 use oracle::cases::Random;
 use oracle::entries::{self, closeness_differs, collinear_by_the_paper, side_of};
-use oracle::sheet_cases::{HYPOT_NO, HYPOT_YES, all_traps, both, marks};
+use oracle::family_cases::marks;
+use oracle::sheet_cases::{HYPOT_NO, HYPOT_YES, all_traps, both};
 
 #[derive(Debug, Default)]
 struct Tally {
@@ -64,7 +66,7 @@ fn random_lists() {
     let mut tally = Tally::default();
     let count = cases(200_000);
     for i in 0..count {
-        let marks = marks(random, i);
+        let marks = marks::<Sheet>(random, i);
         for side in [0, random.pick(&[1, 2, 1 << 31])] {
             compare(&marks, side, &mut tally);
         }
@@ -106,7 +108,7 @@ fn the_cases_reach_every_limit() {
         }
     };
     for i in 0..20_000 {
-        let list = side_of(&marks(random, i), 0);
+        let list = side_of(&marks::<Sheet>(random, i), 0);
         for p in &list {
             let (dx, dy) = (p[0] - list[0][0], p[1] - list[0][1]);
             count((dx * dx + dy * dy).sqrt(), 1e-9, &mut near);

@@ -1,14 +1,19 @@
-//! The proved distance, residual and projection against plain formulas: a
-//! number, that the mark is beyond, or the refusal; by row ratios of every kind.
+//! The proved distance against plain formulas, and a sheet's residual and
+//! projection: a number, that the mark is beyond, or the refusal; by row ratios
+//! of every kind.
 
+use compare::families::Proved;
 use compare::ratios::Ratios;
-use compare::{all_came, cases, is_long, same};
+use compare::{all_came, cases, for_each_family, is_long, same};
 use oracle::cases::Random;
 use oracle::entries;
+use oracle::family_cases::distance;
 use oracle::ratio_cases;
-use oracle::sheet_cases::{distance, distance_traps, ratio_traps};
-use oracle::{Mark, Measure, Model, measure};
+use oracle::sheet_cases::{distance_traps, ratio_traps};
+use oracle::{Mark, Measure, Model, Numbers, Sheet, measure};
 use proved::BEYOND;
+
+for_each_family!(random_models, patterns);
 
 #[derive(Debug, Default)]
 struct Tally {
@@ -21,6 +26,13 @@ struct Tally {
     /// Beyond by a ratio, and refused for it though it would be beyond.
     beyond_by_ratio: usize,
     ratio_before_beyond: usize,
+    /// Refused for a form's camera; refused for something else though that is
+    /// bad too; and refused for it though it would be beyond.
+    value: usize,
+    record_before_value: usize,
+    point_before_value: usize,
+    ratio_before_value: usize,
+    value_before_beyond: usize,
     /// By this ratio another number than by 1.
     decided: usize,
     /// Numbers: finite, infinite, a NaN, and any with s = +inf.
@@ -65,8 +77,8 @@ fn told(answer: Result<Measure, u32>) -> (u32, f64) {
     }
 }
 
-/// Compares the residual, by this ratio and by 1, and the projection, which
-/// refuse nothing.
+/// Compares a sheet's residual, by this ratio and by 1, and its projection,
+/// which refuse nothing.
 fn compare_formulas(h: &Model, mark: &Mark, ratio: f64) {
     let (word, number) = told(Ok(measure(h, mark, ratio)));
     let ours = proved::residual_told(h, mark, ratio);
@@ -88,32 +100,39 @@ fn compare_formulas(h: &Model, mark: &Mark, ratio: f64) {
     }
 }
 
-fn compare(h: &Model, mark: &Mark, ratio: f64, tally: &mut Tally) {
-    let (word, number) = told(entries::distance(h, mark, ratio));
-    let ours = proved::distance_told(h, mark, ratio);
-    assert_eq!(ours, word, "{h:?} {mark:?} {ratio:e}");
-    let ours = proved::distance(h, mark, ratio);
+fn compare<F: Proved>(family: &F, h: &F::Model, mark: &F::Mark, ratio: f64, tally: &mut Tally) {
+    let (word, number) = told(entries::distance(family, h, mark, ratio));
+    let ours = family.distance_told(h, mark, ratio);
+    assert_eq!(ours, word, "{family:?} {h:?} {mark:?} {ratio:e}");
+    let ours = family.proved_distance(h, mark, ratio);
     assert!(
         same(ours, number),
-        "{h:?} {mark:?} {ratio:e}: {ours:e}, not {number:e}"
+        "{family:?} {h:?} {mark:?} {ratio:e}: {ours:e}, not {number:e}"
     );
-    compare_formulas(h, mark, ratio);
-    let [s, ..] = projection(h, mark[0], mark[1]);
+    let s = F::divisor(h, mark);
     match word {
         0 => tally.number(number, s),
         1 => tally.record += 1,
         6 => tally.point += 1,
         16 => tally.ratio += 1,
+        17 => tally.value += 1,
         BEYOND => tally.beyond(s),
         _ => panic!("no answer of a distance: {word}"),
     }
-    tally.by_ratio(h, mark, ratio, (word, number));
+    tally.by_ratio(family, h, mark, ratio, (word, number));
 }
 
 impl Tally {
     /// Counts what came by a ratio, beside what comes by 1.
-    fn by_ratio(&mut self, h: &Model, mark: &Mark, ratio: f64, (word, number): (u32, f64)) {
-        let (word_by_one, by_one) = told(entries::distance(h, mark, 1.0));
+    fn by_ratio<F: Proved>(
+        &mut self,
+        family: &F,
+        h: &F::Model,
+        mark: &F::Mark,
+        ratio: f64,
+        (word, number): (u32, f64),
+    ) {
+        let (word_by_one, by_one) = told(entries::distance(family, h, mark, 1.0));
         let refused = !(0.01..=100.0).contains(&ratio);
         self.ratios.add(ratio);
         self.record_before_ratio += usize::from(word == 1 && refused);
@@ -121,6 +140,11 @@ impl Tally {
         self.beyond_by_ratio += usize::from(word == BEYOND && ratio != 1.0);
         self.ratio_before_beyond += usize::from(word == 16 && word_by_one == BEYOND);
         self.decided += usize::from(word == 0 && !same(number, by_one));
+        let bad = family.tested().is_err();
+        self.record_before_value += usize::from(word == 1 && bad);
+        self.point_before_value += usize::from(word == 6 && bad);
+        self.ratio_before_value += usize::from(word == 16 && bad);
+        self.value_before_beyond += usize::from(word == 17 && F::beyond(h, mark));
     }
 
     fn number(&mut self, distance: f64, s: f64) {
@@ -141,7 +165,15 @@ impl Tally {
     }
 
     /// Sees that every answer came, by s of every kind.
-    fn met(&self) {
+    fn met<F: Proved>(&self) {
+        let of_value = [
+            self.value,
+            self.record_before_value,
+            self.point_before_value,
+            self.ratio_before_value,
+            self.value_before_beyond,
+        ];
+        assert!(F::NUMBERS == 0 || all_came(&of_value), "{self:?}");
         assert!(
             all_came(&[
                 self.record,
@@ -168,37 +200,58 @@ impl Tally {
 }
 
 #[test]
-fn traps() {
+fn traps_of_sheets() {
     let mut tally = Tally::default();
+    let mut one = |h, mark, ratio| {
+        compare(&Sheet, &h, &mark, ratio, &mut tally);
+        compare_formulas(&h, &mark, ratio);
+    };
     for (h, mark) in distance_traps() {
-        compare(&h, &mark, 1.0, &mut tally);
+        one(h, mark, 1.0);
         for ratio in ratio_cases::limits() {
-            compare(&h, &mark, ratio, &mut tally);
+            one(h, mark, ratio);
         }
     }
     for (h, mark, ratio) in ratio_traps() {
-        compare(&h, &mark, ratio, &mut tally);
+        one(h, mark, ratio);
     }
     println!("distance, traps: {tally:?}");
-    tally.met();
+    tally.met::<Sheet>();
 }
 
-#[test]
-fn random_models() {
+/// A ratio that is mostly accepted.
+fn ratio(random: &mut Random) -> f64 {
+    let any = ratio_cases::any(random);
+    let accepted = ratio_cases::accepted(random);
+    random.pick(&[accepted, accepted, accepted, any])
+}
+
+fn random_models<F: Proved>() {
     let random = &mut Random::new(15);
     let mut tally = Tally::default();
     let count = cases(500_000);
     for i in 0..count {
-        let (h, mark) = distance(random, i);
-        let any = ratio_cases::any(random);
-        let accepted = ratio_cases::accepted(random);
-        let ratio = random.pick(&[accepted, accepted, accepted, any]);
-        compare(&h, &mark, ratio, &mut tally);
+        let family = match random.below(8) {
+            0 => F::any(random),
+            _ => F::accepted(random),
+        };
+        let (h, mark) = distance(random, &family, i);
+        compare(&family, &h, &mark, ratio(random), &mut tally);
     }
     println!("distance: {tally:?}");
     if is_long(count) {
-        tally.met();
+        tally.met::<F>();
         tally.ratios.all_met();
+    }
+}
+
+/// A sheet's residual and projection by themselves.
+#[test]
+fn formulas() {
+    let random = &mut Random::new(17);
+    for i in 0..cases(500_000) {
+        let (h, mark) = distance(random, &Sheet, i);
+        compare_formulas(&h, &mark, ratio(random));
     }
 }
 
@@ -220,19 +273,30 @@ fn pattern(random: &mut Random) -> f64 {
     }
 }
 
-/// The residual and the projection answer for any numbers.
-#[test]
-fn patterns() {
+/// Any numbers at all: most are refused.
+fn patterns<F: Proved>() {
     let random = &mut Random::new(16);
     let mut tally = Tally::default();
+    for _ in 0..cases(300_000) {
+        let h = F::Model::from_fn(|_| pattern(random));
+        let mark = F::Mark::from_fn(|_| pattern(random));
+        let any = pattern(random);
+        let family = F::any(random);
+        compare(&family, &h, &mark, random.pick(&[1.0, any]), &mut tally);
+    }
+    println!("distance, any patterns: {tally:?}");
+}
+
+/// The residual and the projection answer for any numbers.
+#[test]
+fn formulas_of_patterns() {
+    let random = &mut Random::new(18);
     for _ in 0..cases(300_000) {
         let h = [0; 9].map(|_| pattern(random));
         let mark = [0; 4].map(|_| pattern(random));
         let any = pattern(random);
-        let ratio = random.pick(&[1.0, any]);
-        compare(&h, &mark, ratio, &mut tally);
+        compare_formulas(&h, &mark, random.pick(&[1.0, any]));
     }
-    println!("distance, any patterns: {tally:?}");
 }
 
 /// There are three places.

@@ -1,9 +1,11 @@
 //! The proved normalising against `normalize_points_2d`.
 
 use compare::{Tally, cases, is_long, junk, same, same_lists};
+use oracle::Sheet;
 use oracle::cases::Random;
 use oracle::entries;
-use oracle::sheet_cases::{all_traps, marks, room};
+use oracle::family_cases::marks;
+use oracle::sheet_cases::{all_traps, room};
 
 /// Every number that normalising may answer.
 const ANSWERS: [u32; 5] = [0, 5, 6, 9, 12];
@@ -69,7 +71,7 @@ fn random_lists() {
     let mut tally = Tally::default();
     let count = cases(60_000);
     for i in 0..count {
-        let marks = marks(random, i);
+        let marks = marks::<Sheet>(random, i);
         let side = random.pick(&[0, 0, 1, 2, 1 << 31]);
         let room = room(random, marks.len() / 4 * 2);
         let places = places(random, &marks);

@@ -1,9 +1,11 @@
 //! The proved rows against those of `dlt_homography`.
 
 use compare::{Tally, cases, is_long, junk, same_lists};
+use oracle::Sheet;
 use oracle::cases::Random;
 use oracle::entries::{self, closeness_differs};
-use oracle::sheet_cases::{HYPOT_NO, HYPOT_YES, SQUARE, all_traps, marks, pair, room};
+use oracle::family_cases::marks;
+use oracle::sheet_cases::{HYPOT_NO, HYPOT_YES, SQUARE, all_traps, pair, room};
 
 /// Every number that the rows may answer but 12, which has not come up: a cross
 /// product above 1e-6 needs a point more than 1e-4 from the first, and points
@@ -54,7 +56,7 @@ fn random_lists() {
     let mut tally = Tally::default();
     let count = cases(100_000);
     for i in 0..count {
-        let marks = marks(random, i);
+        let marks = marks::<Sheet>(random, i);
         let room = room(random, marks.len() / 4 * 18);
         tally.add(compare(&marks, room));
     }

@@ -11,7 +11,7 @@ use oracle::example;
 use oracle::pick_cases::{Bytes, Case, NOT_OPTIONS, any_stops, damaged, reference, rooms, runs};
 use oracle::ratio_cases;
 use oracle::whole;
-use oracle::{Run, Trial, Winner, stop_list};
+use oracle::{Run, Sheet, Trial, Winner, stop_list};
 use proved::pick::salghemu_run;
 
 /// Every number that the whole run may answer.
@@ -410,7 +410,7 @@ fn the_longest_runs() {
         case.marks.truncate(4 * n);
         case.options.max_iters = max_iters;
         case.options.min_inliers = 2001;
-        case.stops = stop_list(case.options.confidence, n);
+        case.stops = stop_list::<Sheet>(case.options.confidence, n);
         let fit = Trial {
             fit: Some([1.0; 9]),
             refit: None,

@@ -1,15 +1,19 @@
 //! The proved measuring and scoring: lists of squared distances of any numbers,
-//! measured by any row ratio, against the plain computation, bit for bit.
+//! measured by any row ratio and any camera, against the plain computation, bit
+//! for bit.
 
+use compare::families::Proved;
 use compare::ratios::Ratios;
-use compare::{all_came, cases, is_long, junk, same, same_lists};
+use compare::{all_came, cases, for_each_family, is_long, junk, same, same_lists};
+use oracle::Numbers;
 use oracle::cases::{NANS, Random, step};
 use oracle::ratio_cases;
-use oracle::scoring::{self, Limits, squared};
-use oracle::scoring_cases::{best, count, sheet, squares, thresh};
+use oracle::scoring::{self, Limits};
+use oracle::scoring_cases::{best, count, measured, squares, thresh};
 use oracle::sheet_cases::room;
-use oracle::{Mark, Model, beyond, distance};
 use proved::scoring as proved;
+
+for_each_family!(measuring);
 
 /// What came up, so that a run of many shows what was reached.
 #[derive(Debug, Default)]
@@ -236,7 +240,7 @@ fn specials() {
 
 // Measuring.
 
-/// How often s was of each kind, how often some marks of a list were beyond or
+/// How often s, or Z, was of each kind, how often some marks of a list were beyond or
 /// all, and how often there was no room.
 #[derive(Debug, Default)]
 struct Kinds {
@@ -258,17 +262,17 @@ struct Kinds {
 }
 
 impl Kinds {
-    fn mark(&mut self, h: &Model, mark: &Mark, ratio: f64) {
-        let s = (h[6] * mark[0] + h[7] * mark[1]) + h[8];
+    fn mark<F: Proved>(&mut self, family: &F, h: &F::Model, mark: &F::Mark, ratio: f64) {
+        let s = F::divisor(h, mark);
         self.marks += 1;
         self.positive += usize::from(s > 0.0);
         self.zero += usize::from(s == 0.0);
         self.negative += usize::from(s < 0.0);
         self.infinite += usize::from(s.is_infinite());
         self.nan += usize::from(s.is_nan());
-        let square = squared(h, mark, ratio);
+        let square = family.squared(h, mark, ratio);
         self.nan_square += usize::from(square.is_nan());
-        self.decided += usize::from(!same(square, squared(h, mark, 1.0)));
+        self.decided += usize::from(!same(square, family.squared(h, mark, 1.0)));
         // Whatever the ratio is, no square is below 0, and none is -0.
         assert!(square.is_nan() || square.is_sign_positive());
     }
@@ -305,45 +309,51 @@ impl Kinds {
 
 /// Measures, with the whole lent list and how many are beyond, counted or not;
 /// each square's root is the distance.
-fn measure(h: &Model, ratio: f64, marks: &[f64], room: usize, kinds: &mut Kinds) {
-    let list: &[Mark] = marks.as_chunks().0;
+fn measure<F: Proved>(
+    family: &F,
+    h: &F::Model,
+    ratio: f64,
+    marks: &[f64],
+    room: usize,
+    kinds: &mut Kinds,
+) {
+    let list = F::Mark::chunks(marks).0;
     let (mut theirs, mut told) = (junk(room), 0);
-    let all_beyond = list.iter().filter(|mark| beyond(h, mark)).count();
+    let all_beyond = list.iter().filter(|mark| F::beyond(h, mark)).count();
     kinds.list(list.len(), all_beyond, room);
     kinds.ratios.add(ratio);
     for mark in list {
-        kinds.mark(h, mark, ratio);
-        let root = squared(h, mark, ratio).sqrt();
-        assert!(same(root, distance(h, mark, ratio)));
+        kinds.mark(family, h, mark, ratio);
+        let root = family.squared(h, mark, ratio).sqrt();
+        assert!(same(root, family.distance(h, mark, ratio)));
     }
     if list.len() <= room {
         told = all_beyond;
         for (place, mark) in theirs.iter_mut().zip(list) {
-            *place = squared(h, mark, ratio);
+            *place = family.squared(h, mark, ratio);
         }
     }
     for (counting, told) in [(true, told), (false, 0)] {
         let mut ours = junk(room);
-        let number = proved::squared_residuals(h, ratio, marks, &mut ours, counting);
-        let about = || format!("{counting}, room {room}, {ratio:e} {h:?} {marks:?}");
+        let number = family.squared_residuals(h, ratio, marks, &mut ours, counting);
+        let about = || format!("{counting}, room {room}, {ratio:e} {family:?} {h:?} {marks:?}");
         assert_eq!(number, told, "{}", about());
         assert!(same_lists(&ours, &theirs), "{}", about());
     }
 }
 
-#[test]
-fn measured_sheets() {
+fn measuring<F: Proved>() {
     let random = &mut Random::new(63);
     let mut kinds = Kinds::default();
     let count = cases(200_000);
     for i in 0..count {
-        let (h, marks) = sheet(random, i);
+        let (family, h, marks) = measured::<F>(random, i);
         let ratio = match random.below(2) {
             0 => ratio_cases::accepted(random),
             _ => ratio_cases::any(random),
         };
-        let room = room(random, marks.len() / 4);
-        measure(&h, ratio, &marks, room, &mut kinds);
+        let room = room(random, marks.len() / F::WIDTH);
+        measure(&family, &h, ratio, &marks, room, &mut kinds);
     }
     println!("measuring: {kinds:?}");
     if is_long(count) {

@@ -1,110 +1,129 @@
 //! The proved opening and trial, one call at a time: against `ransac_fit` at
 //! the end, and against the book at every step.
 
+use compare::families::Proved;
 use compare::folded::Folded;
 use compare::ratios::Ratios;
-use compare::{Tally, all_came, junk_words};
-use oracle::book::{Book, Call, Options, RATIO_AT, State, Words, trial_record};
+use compare::{Tally, all_came, for_each_family, junk_words};
+use oracle::book::{Book, Call, MODEL_AT, Options, State, Words, trial_record};
 use oracle::cases::{NANS, Random};
 use oracle::close_cases::close;
 use oracle::example::{BEHIND, I, SQUARE, T};
+use oracle::family_cases::identity;
 use oracle::pick_cases::{
     Case, NOT_OPTIONS, any_stops, damage_marks, damage_options, damage_trial, hand_made,
     other_length, reference, runs,
 };
 use oracle::ratio_cases;
-use oracle::{Model, Trial};
+use oracle::{Numbers, Sheet, Trial};
 use proved::pick::{self, NO_WORDS};
 
 /// A number of runs from which on every answer must come up.
 const LONG: usize = 2_000;
 
-/// A trial's 29 words.
-type Told = [u64; 29];
+/// A trial's words.
+type Told = Vec<u64>;
 
-fn of_type(options: &Options) -> pick::Options {
-    pick::Options {
-        thresh: options.thresh,
-        confidence: options.confidence,
-        max_iters: options.max_iters,
-        min_inliers: options.min_inliers,
-        refit: options.refit,
-        ratio: options.ratio,
-    }
-}
+for_each_family!(
+    openings,
+    pairs_of_faults,
+    lengths_of_options,
+    ratios_of_openings,
+    openings_of_any_options,
+    no_room_for_words,
+    trials_give_what_ransac_fit_gives,
+    trials_of_close_candidates,
+    trials_with_any_stop_list,
+    refused_calls_in_between,
+    hand_made_states,
+    states_at_the_limits,
+    hand_made_thresholds,
+    hand_made_ratios,
+    hand_made_winners,
+);
 
 /// One list of words after an opening: the state's in front, the rest as it
 /// was; all as it was if refused.
-fn opened(number: u32, words: &[u64], expected: &Result<State, u32>) {
+fn opened<F: Proved>(number: u32, words: &[u64], expected: &Result<State<F>, u32>) {
     let mut theirs = junk_words(words.len());
     if let Ok(state) = expected {
-        theirs[..25].copy_from_slice(&state.words());
+        theirs[..F::WORDS].copy_from_slice(&state.words());
     }
     assert_eq!(number, expected.as_ref().err().copied().unwrap_or(0));
     assert_eq!(words, theirs);
 }
 
-/// Opens from a record; tells the refusal or 0.
-fn open(record: &[u8], marks: &[f64], stops: &[u32]) -> u32 {
-    let expected = State::open_record(record, marks, stops);
-    for room in [25, 30] {
+/// Opens from records; tells the refusal or 0.
+fn open<F: Proved>(records: [&[u8]; 2], marks: &[f64], stops: &[u32]) -> u32 {
+    let expected = State::<F>::open_records(records, marks, stops);
+    for room in [F::WORDS, F::WORDS + 5] {
         let mut words = junk_words(room);
-        let number = pick::open(record, marks, stops, &mut words);
+        let number = F::open(records, marks, stops, &mut words);
         opened(number, &words, &expected);
     }
     expected.err().unwrap_or(0)
 }
 
-/// Opens from the type; tells the refusal or 0.
-fn open_options(options: &Options, marks: &[f64], stops: &[u32]) -> u32 {
-    let expected = State::open(*options, marks, stops);
-    let mut words = junk_words(26);
-    let number = pick::open_options(of_type(options), marks, stops, &mut words);
+/// Opens from the types; tells the refusal or 0.
+fn open_options<F: Proved>(family: &F, options: &Options, marks: &[f64], stops: &[u32]) -> u32 {
+    let expected = State::open(*family, *options, marks, stops);
+    let mut words = junk_words(F::WORDS + 1);
+    let number = family.open_options(options, marks, stops, &mut words);
     opened(number, &words, &expected);
     expected.err().unwrap_or(0)
 }
 
 /// One trial call on any words, with more room than it needs.
-fn called(words: &Words, call: &Call) -> Told {
-    let mut out = junk_words(30);
-    let answer = pick::trial(words, call.record, call.marks, call.stops, &mut out);
+fn called<F: Proved>(words: &[u64], call: &Call) -> Told {
+    let len = F::WORDS + 4;
+    let mut out = junk_words(len + 1);
+    let answer = F::trial(words, call.record, call.marks, call.stops, &mut out);
     assert_eq!(answer, 0);
-    assert_eq!(out[29], junk_words(30)[29]);
-    out[..29].try_into().expect("29 words")
+    assert_eq!(out[len], junk_words(len + 1)[len]);
+    out.truncate(len);
+    out
 }
 
 /// What the book has for the same call.
-fn expected(words: &Words, call: &Call) -> Told {
-    let mut state = State::of_words(words);
+fn expected<F: Proved>(words: &[u64], call: &Call) -> Told {
+    let mut state = State::<F>::of_words(words);
     let answer = state.trial(call);
-    let mut told = [0; 29];
-    told[..25].copy_from_slice(&state.words());
-    told[25..].copy_from_slice(&answer.words());
-    told
+    [state.words(), answer.words().to_vec()].concat()
 }
 
 /// Compares one call; tells its words.
-fn compare(words: &Words, call: &Call) -> Told {
-    let ours = called(words, call);
-    assert_eq!(ours, expected(words, call), "{words:?} {call:?}");
+fn compare<F: Proved>(words: &[u64], call: &Call) -> Told {
+    let ours = called::<F>(words, call);
+    assert_eq!(ours, expected::<F>(words, call), "{words:?} {call:?}");
     ours
 }
 
-fn state_of(told: &Told) -> Words {
-    told[..25].try_into().expect("25 words")
+/// The new state, and what the trial came to: which outcome, the refusal or the
+/// count, the rms, and how many are beyond.
+fn parts(told: &[u64]) -> (&[u64], &[u64]) {
+    told.split_at(told.len() - 4)
+}
+
+fn state_of(told: &[u64]) -> Words {
+    parts(told).0.to_vec()
 }
 
 /// The refusal, or 0.
-fn number_of(told: &Told) -> u32 {
-    if told[25] == 0 { told[26] as u32 } else { 0 }
+fn number_of(told: &[u64]) -> u32 {
+    match *parts(told).1 {
+        [0, number, ..] => number as u32,
+        _ => 0,
+    }
 }
 
-/// The state's words of an opening from the case's record; from that without a
-/// ratio, where it is 1, they are the same.
-fn opening(case: &Case) -> Words {
+/// The state's words of an opening from the case's records; from options
+/// without a ratio, where it is 1, they are the same.
+fn opening<F: Proved>(case: &Case<F>) -> Words {
+    let value = case.family.record();
     let opened = |record: &[u8]| {
-        let mut words = [0; 25];
-        assert_eq!(pick::open(record, &case.marks, &case.stops, &mut words), 0);
+        let mut words = vec![0; F::WORDS];
+        let number = F::open([record, &value], &case.marks, &case.stops, &mut words);
+        assert_eq!(number, 0, "{case:?}");
         words
     };
     let words = opened(&case.options.record());
@@ -124,10 +143,11 @@ struct Outcomes {
 }
 
 impl Outcomes {
-    fn add(&mut self, before: &Words, call: &Call, told: &Told) {
-        self.times[told[25] as usize] += 1;
-        self.rose += usize::from(told[10] > before[10]);
-        self.folded.add(before, call, &told[25..]);
+    fn add<F: Proved>(&mut self, before: &[u64], call: &Call, told: &[u64]) {
+        let (state, answer) = parts(told);
+        self.times[answer[0] as usize] += 1;
+        self.rose += usize::from(state[10] > before[10]);
+        self.folded.add::<F>(before, call, answer);
     }
 
     /// Sees that all of it came.
@@ -149,7 +169,7 @@ fn on_the_square(thresh: f64, min_inliers: u32, trials: &[Trial]) -> Vec<Short> 
 
 fn by_a_ratio(ratio: f64, thresh: f64, min_inliers: u32, trials: &[Trial]) -> Vec<Short> {
     let stops = [9, 9, 9, 9, 3, 9];
-    let options = pick::Options {
+    let options = Options {
         thresh,
         confidence: 0.99,
         max_iters: 10,
@@ -157,8 +177,8 @@ fn by_a_ratio(ratio: f64, thresh: f64, min_inliers: u32, trials: &[Trial]) -> Ve
         refit: true,
         ratio,
     };
-    let mut words = [0; 25];
-    assert_eq!(pick::open_options(options, &SQUARE, &stops, &mut words), 0);
+    let mut words = vec![0; 25];
+    assert_eq!(Sheet.open_options(&options, &SQUARE, &stops, &mut words), 0);
     let one = |trial: &Trial| {
         let record = trial_record(trial);
         let call = Call {
@@ -166,7 +186,7 @@ fn by_a_ratio(ratio: f64, thresh: f64, min_inliers: u32, trials: &[Trial]) -> Ve
             marks: &SQUARE,
             stops: &stops,
         };
-        let told = compare(&words, &call);
+        let told = compare::<Sheet>(&words, &call);
         words = state_of(&told);
         (told[25], told[26], f64::from_bits(told[27]), told[28])
     };
@@ -225,14 +245,25 @@ fn the_documents_sheets_by_a_ratio() {
 
 // Openings.
 
-#[test]
-fn openings() {
+/// A record of the family's value, sometimes of another length, or of a value
+/// that isn't accepted.
+fn value_record<F: Proved>(random: &mut Random, family: &F) -> Vec<u8> {
+    let mut record = family.record();
+    match random.below(6) {
+        0 => record = F::any(random).record(),
+        1 if F::NUMBERS > 0 => record.resize(random.pick(&[0, 8, 31, 33, 40, 64]), 0),
+        _ => {}
+    }
+    record
+}
+
+fn openings<F: Proved>() {
     let random = &mut Random::new(40);
     let mut tallies = [Tally::default(), Tally::default()];
     let mut accepted = [0; 2];
     let count = runs(10_000, 50);
     for i in 0..count {
-        let mut case = any_stops(random, i);
+        let mut case = any_stops::<F>(random, i);
         let short = case.options.short_record().filter(|_| random.below(2) == 0);
         let mut record = match short {
             Some(short) => short.to_vec(),
@@ -242,36 +273,50 @@ fn openings() {
             damage_options(random, &mut record);
         }
         if random.below(3) == 0 {
-            damage_marks(random, &mut case.marks);
+            damage_marks::<F>(random, &mut case.marks);
         }
         if random.below(3) == 0 {
             case.stops.resize(random.below(9) as usize, 1);
         }
-        let number = open(&record, &case.marks, &case.stops);
+        let value = value_record(random, &case.family);
+        let number = open::<F>([&record, &value], &case.marks, &case.stops);
         tallies[0].add(number);
         // Of 32 bytes, or of 40.
         accepted[usize::from(record.len() == 40)] += usize::from(number == 0);
-        if let Ok(options) = Options::of_record(&record) {
-            tallies[1].add(open_options(&options, &case.marks, &case.stops));
+        let of_records = (Options::of_record(&record), F::of_record(&value));
+        if let (Ok(options), Ok(family)) = of_records {
+            let number = open_options(&family, &options, &case.marks, &case.stops);
+            tallies[1].add(number);
         }
     }
-    tallies[0].show("opening from a record");
-    tallies[1].show("opening from the type");
+    tallies[0].show("opening from records");
+    tallies[1].show("opening from the types");
     if count >= LONG {
         tallies[0].met(&[0, 1, 2, 3, 4, 16, 5, 6, 7, 8]);
         tallies[1].met(&[0, 2, 3, 4, 16, 5, 6, 7, 8]);
         assert!(all_came(&accepted));
+        if F::NUMBERS > 0 {
+            tallies.iter().for_each(|tally| tally.met(&[17]));
+        }
     }
 }
 
-/// Every two faults of an opening: the first in the order 1, 2, 3, 4, 16, 5, 6,
-/// 7, 8 is told.
-#[test]
-fn pairs_of_faults() {
-    const ORDER: [u32; 9] = [1, 2, 3, 4, 16, 5, 6, 7, 8];
-    let case = oracle::example::sheet();
-    for (place, &first) in ORDER.iter().enumerate() {
-        for &second in &ORDER[place..] {
+/// A number that stands for the record of the family's value having a wrong
+/// length: its refusal is 1 too.
+const OF_VALUE: u32 = 100;
+
+/// The order in which an opening refuses.
+fn order<F: Proved>() -> Vec<u32> {
+    let order = [1, OF_VALUE, 2, 3, 4, 16, 5, 6, 7, 8, 17];
+    let has = |number: &u32| F::NUMBERS > 0 || ![OF_VALUE, 17].contains(number);
+    order.into_iter().filter(has).collect()
+}
+
+/// Every two faults of an opening: the first in the order is told.
+fn pairs_of_faults<F: Proved>() {
+    let case = F::example();
+    for (place, &first) in order::<F>().iter().enumerate() {
+        for &second in &order::<F>()[place..] {
             let bad = |number: u32| first == number || second == number;
             let instead = |number: u32, usual: f64, wrong: f64| match bad(number) {
                 true => wrong,
@@ -286,15 +331,21 @@ fn pairs_of_faults() {
             };
             let mut record = options.record();
             record[24] += 2 * u8::from(bad(1));
-            // Three marks for 7, a number more for 5, one too large for 6.
-            let few = if bad(7) { 12 } else { 20 };
-            let mut marks = case.marks[..few].to_vec();
+            // One mark too few for 7, a number more for 5, one too large for 6.
+            let n = if bad(7) { F::FEWEST - 1 } else { case.n() };
+            let mut marks = case.marks[..F::WIDTH * n].to_vec();
             marks[3] = instead(6, 0.0, 2e9);
             marks.extend(bad(5).then_some(0.0));
-            let stops = vec![9; if bad(8) { 2 } else { few / 4 + 1 }];
-            assert_eq!(open(&record, &marks, &stops), first, "{first} {second}");
-            if first != 1 {
-                assert_eq!(open_options(&options, &marks, &stops), first);
+            let stops = vec![9; if bad(8) { 2 } else { n + 1 }];
+            let numbers = vec![instead(17, 1.0, 1e9f64.next_up()); F::NUMBERS];
+            let family = F::of_numbers(&numbers);
+            let mut value = family.record();
+            value.extend(bad(OF_VALUE).then_some(0));
+            let told = if first == OF_VALUE { 1 } else { first };
+            let number = open::<F>([&record, &value], &marks, &stops);
+            assert_eq!(number, told, "{first} {second}");
+            if ![1, OF_VALUE].contains(&first) {
+                assert_eq!(open_options(&family, &options, &marks, &stops), first);
             }
         }
     }
@@ -302,33 +353,33 @@ fn pairs_of_faults() {
 
 /// A record of 32 bytes has ratio 1, one of 40 its own, and no other length is
 /// one. The filler is tested in both.
-#[test]
-fn lengths_of_options() {
-    let case = oracle::example::sheet();
-    let (marks, stops) = (&case.marks, &case.stops);
+fn lengths_of_options<F: Proved>() {
+    let case = F::example();
+    let value = case.family.record();
+    let open = |record: &[u8]| open::<F>([record, &value], &case.marks, &case.stops);
     let long = case.options.record();
     for len in NOT_OPTIONS.into_iter().chain([2, 16, 25, 48, 152, 5000]) {
         let mut record = long.to_vec();
         record.resize(len, 0);
-        assert_eq!(open(&record, marks, stops), 1, "{len} bytes");
+        assert_eq!(open(&record), 1, "{len} bytes");
     }
-    assert_eq!(open(&long, marks, stops), 0);
-    assert_eq!(open(&long[..32], marks, stops), 0);
+    assert_eq!(open(&long), 0);
+    assert_eq!(open(&long[..32]), 0);
     for place in 24..32 {
         for bit in 0..8 {
             let mut record = long;
             record[place] ^= 1 << bit;
             let number = u32::from((place, bit) != (24, 0));
-            assert_eq!(open(&record, marks, stops), number);
-            assert_eq!(open(&record[..32], marks, stops), number);
+            assert_eq!(open(&record), number);
+            assert_eq!(open(&record[..32]), number);
         }
     }
 }
 
 /// The ratio by itself: each limit, from a record and from the type.
-#[test]
-fn ratios_of_openings() {
-    let case = oracle::example::sheet();
+fn ratios_of_openings<F: Proved>() {
+    let case = F::example();
+    let value = case.family.record();
     let mut ratios = Ratios::default();
     let mut tally = Tally::default();
     for ratio in ratio_cases::limits() {
@@ -336,8 +387,9 @@ fn ratios_of_openings() {
             ratio,
             ..case.options
         };
-        let number = open_options(&options, &case.marks, &case.stops);
-        assert_eq!(open(&options.record(), &case.marks, &case.stops), number);
+        let number = open_options(&case.family, &options, &case.marks, &case.stops);
+        let records: [&[u8]; 2] = [&options.record(), &value];
+        assert_eq!(open::<F>(records, &case.marks, &case.stops), number);
         let accepted = 0.01 <= ratio && ratio <= 100.0;
         assert_eq!(number, if accepted { 0 } else { 16 }, "{ratio:e}");
         ratios.add(ratio);
@@ -347,10 +399,9 @@ fn ratios_of_openings() {
     tally.met(&[0, 16]);
 }
 
-#[test]
-fn openings_of_any_options() {
+fn openings_of_any_options<F: Proved>() {
     let random = &mut Random::new(41);
-    let case = reference(random, 1);
+    let case = reference::<F>(random, 1);
     for _ in 0..runs(20_000, 50) {
         let options = Options {
             thresh: random.pattern(),
@@ -360,8 +411,10 @@ fn openings_of_any_options() {
             refit: random.below(2) == 0,
             ratio: ratio_cases::any(random),
         };
-        open_options(&options, &case.marks, &case.stops);
-        open(&options.record(), &case.marks, &case.stops);
+        let family = F::any(random);
+        open_options(&family, &options, &case.marks, &case.stops);
+        let records: [&[u8]; 2] = [&options.record(), &family.record()];
+        open::<F>(records, &case.marks, &case.stops);
     }
 }
 
@@ -371,11 +424,17 @@ fn the_maker_from_a_threshold() {
     let mut numbers = NANS.map(f64::from_bits).to_vec();
     numbers.extend([0.0, -0.0, 2.0, f64::INFINITY, -1.0, f64::MAX, 5e-324]);
     numbers.extend((0..1000).map(|_| random.pattern()));
+    for room in [0, 4, 5] {
+        let mut words = junk_words(room);
+        assert_eq!(pick::new_options(2.0, &mut words), NO_WORDS);
+        assert_eq!(words, junk_words(room));
+    }
     for thresh in numbers {
         let mut words = junk_words(7);
         assert_eq!(pick::new_options(thresh, &mut words), 0);
         let mut theirs = junk_words(7);
         let case = State {
+            family: Sheet,
             options: Options::new(thresh),
             n: 0,
             book: Book::opened(&Options::new(thresh)),
@@ -387,39 +446,37 @@ fn the_maker_from_a_threshold() {
 }
 
 /// Lists too short for the words: nothing is written.
-#[test]
-fn no_room_for_words() {
-    let case = reference(&mut Random::new(43), 1);
-    let (record, marks, stops) = (case.options.record(), &case.marks, &case.stops);
+fn no_room_for_words<F: Proved>() {
+    let case = reference::<F>(&mut Random::new(43), 1);
+    let (record, value) = (case.options.record(), case.family.record());
+    let (marks, stops) = (&case.marks, &case.stops);
     let state = opening(&case);
-    let empty = trial_record(&Trial::default());
-    for room in [0, 1, 4, 24] {
+    let empty = trial_record(&Trial::<F::Model>::default());
+    for room in [0, 1, 4, 24, F::WORDS - 1] {
         let mut words = junk_words(room);
-        assert_eq!(pick::open(&record, marks, stops, &mut words), NO_WORDS);
-        let options = of_type(&case.options);
-        let answer = pick::open_options(options, marks, stops, &mut words);
+        let answer = F::open([&record, &value], marks, stops, &mut words);
         assert_eq!(answer, NO_WORDS);
-        let mut out = junk_words(29);
-        let answer = pick::trial(&state[..room], &empty, marks, stops, &mut out);
-        assert_eq!((answer, out), (NO_WORDS, junk_words(29)));
+        let answer = case
+            .family
+            .open_options(&case.options, marks, stops, &mut words);
+        assert_eq!(answer, NO_WORDS);
+        let len = F::WORDS + 4;
+        let mut out = junk_words(len);
+        let answer = F::trial(&state[..room], &empty, marks, stops, &mut out);
+        assert_eq!((answer, out), (NO_WORDS, junk_words(len)));
         assert_eq!(words, junk_words(room));
     }
-    for room in [0, 4, 5] {
-        let mut words = junk_words(room);
-        assert_eq!(pick::new_options(2.0, &mut words), NO_WORDS);
-        assert_eq!(words, junk_words(room));
-    }
-    for room in [0, 25, 27, 28] {
+    for room in [0, F::WORDS, F::WORDS + 2, F::WORDS + 3] {
         let mut out = junk_words(room);
-        let answer = pick::trial(&state, &empty, marks, stops, &mut out);
+        let answer = F::trial(&state, &empty, marks, stops, &mut out);
         assert_eq!((answer, out), (NO_WORDS, junk_words(room)));
     }
 }
 
 // Lists of calls.
 
-/// The state after the case's trials, each compared; then one call more.
-fn replayed(case: &Case, outcomes: &mut Outcomes) -> Words {
+/// The state after the case's trials, each compared.
+fn replayed<F: Proved>(case: &Case<F>, outcomes: &mut Outcomes) -> Words {
     let mut words = opening(case);
     let mut book = Book::opened(&case.options);
     for trial in &case.trials {
@@ -429,43 +486,45 @@ fn replayed(case: &Case, outcomes: &mut Outcomes) -> Words {
             marks: &case.marks,
             stops: &case.stops,
         };
-        let told = compare(&words, &call);
+        let told = compare::<F>(&words, &call);
         // The book knows nothing of the state that the calls hand on.
-        let answer = book.call(&case.options, case.n() as u64, &call);
-        assert_eq!(answer.words(), told[25..], "{case:?}");
-        outcomes.add(&words, &call, &told);
+        let answer = book.call(&case.fed(), &call);
+        assert_eq!(answer.words(), *parts(&told).1, "{case:?}");
+        outcomes.add::<F>(&words, &call, &told);
         words = state_of(&told);
     }
     let after = State {
-        options: case.options,
-        n: case.n() as u64,
         book,
+        ..case.open()
     };
     assert_eq!(after.words(), words, "{case:?}");
     words
 }
 
-#[test]
-fn trials_give_what_ransac_fit_gives() {
+fn trials_give_what_ransac_fit_gives<F: Proved>() {
     let random = &mut Random::new(44);
     let mut outcomes = Outcomes::default();
     let mut ratios = Ratios::default();
     let count = runs(8_000, 100);
     for i in 0..count {
-        let case = reference(random, i);
+        let case = reference::<F>(random, i);
         ratios.add(case.options.ratio);
         let theirs = case.ransac_fit();
         let words = replayed(&case, &mut outcomes);
         assert_eq!(words[6], theirs.read as u64, "{case:?}");
         assert_eq!(words[6], words[7] + words[8] + words[9]);
-        let mut expected = [0; 13];
+        let mut expected = vec![0; F::RATIO_AT - 11];
         if let Some(winner) = &theirs.winner {
             expected[..2].copy_from_slice(&[1, winner.inliers.len() as u64]);
             expected[2..4].copy_from_slice(&[winner.number as u64, winner.rms.to_bits()]);
-            expected[4..].copy_from_slice(&winner.model.map(f64::to_bits));
+            for (word, h) in expected[4..].iter_mut().zip(winner.model.as_ref()) {
+                *word = h.to_bits();
+            }
         }
-        assert_eq!(words[11..RATIO_AT], expected, "{case:?}");
-        assert_eq!(words[RATIO_AT], case.options.ratio.to_bits());
+        assert_eq!(words[11..F::RATIO_AT], expected, "{case:?}");
+        assert_eq!(words[F::RATIO_AT], case.options.ratio.to_bits());
+        let value = case.family.numbers().iter().map(|x| x.to_bits());
+        assert!(value.eq(words[F::RATIO_AT + 1..].iter().copied()));
     }
     println!("trials, as ransac_fit: {outcomes:?} {ratios:?}");
     if count >= LONG {
@@ -475,23 +534,21 @@ fn trials_give_what_ransac_fit_gives() {
 }
 
 /// Close candidates, where the rms decides and is given for held trials too.
-#[test]
-fn trials_of_close_candidates() {
+fn trials_of_close_candidates<F: Proved>() {
     let random = &mut Random::new(48);
     let mut outcomes = Outcomes::default();
     for i in 0..runs(4_000, 100) {
-        replayed(&close(random, i), &mut outcomes);
+        replayed(&close::<F>(random, i), &mut outcomes);
     }
     println!("trials, close candidates: {outcomes:?}");
 }
 
-#[test]
-fn trials_with_any_stop_list() {
+fn trials_with_any_stop_list<F: Proved>() {
     let random = &mut Random::new(45);
     let mut outcomes = Outcomes::default();
     let count = runs(8_000, 100);
     for i in 0..count {
-        replayed(&any_stops(random, i), &mut outcomes);
+        replayed(&any_stops::<F>(random, i), &mut outcomes);
     }
     println!("trials, any stops: {outcomes:?}");
     if count >= LONG {
@@ -508,9 +565,9 @@ struct Handed {
 }
 
 impl Handed {
-    fn of(case: &Case, trial: &Trial) -> Self {
+    fn of<F: Proved>(case: &Case<F>, trial: &Trial<F::Model>) -> Self {
         Self {
-            record: trial_record(trial).to_vec(),
+            record: trial_record(trial),
             marks: case.marks.clone(),
             stops: case.stops.clone(),
         }
@@ -525,16 +582,16 @@ impl Handed {
     }
 
     /// Damages one, two or all three of them.
-    fn damage(&mut self, random: &mut Random) {
+    fn damage<F: Proved>(&mut self, random: &mut Random) {
         let ways = 1 + random.below(7);
         if ways & 1 != 0 {
             match random.below(4) {
-                0 => other_length(random, &mut self.record),
-                _ => damage_trial(random, &mut self.record),
+                0 => other_length::<F>(random, &mut self.record),
+                _ => damage_trial::<F>(random, &mut self.record),
             }
         }
         if ways & 2 != 0 {
-            damage_marks(random, &mut self.marks);
+            damage_marks::<F>(random, &mut self.marks);
         }
         if ways & 4 != 0 {
             self.stops.resize(random.below(14) as usize, 1);
@@ -554,25 +611,25 @@ impl Handed {
 
 /// Calls that are refused leave the state, whatever they carry, at any place
 /// of a list.
-#[test]
-fn refused_calls_in_between() {
+fn refused_calls_in_between<F: Proved>() {
     let random = &mut Random::new(46);
     let mut tally = Tally::default();
     let count = runs(8_000, 100);
     for i in 0..count {
-        let case = any_stops(random, i);
+        let case = any_stops::<F>(random, i);
         let mut words = opening(&case);
         for trial in case.trials.iter().take(12) {
             let mut handed = Handed::of(&case, trial);
             match random.below(8) {
-                0..=3 => handed.damage(random),
+                0..=3 => handed.damage::<F>(random),
                 4 => handed.replace(random),
                 _ => {}
             }
-            let told = compare(&words, &handed.call());
+            let told = compare::<F>(&words, &handed.call());
             tally.add(number_of(&told));
-            assert!(told[25] != 0 || (words == state_of(&told) && told[27..] == [0; 2]));
-            words = state_of(&told);
+            let (state, answer) = parts(&told);
+            assert!(answer[0] != 0 || (words == state && answer[2..] == [0; 2]));
+            words = state.to_vec();
         }
     }
     tally.show("trials, some refused");
@@ -583,65 +640,81 @@ fn refused_calls_in_between() {
 
 // States made by hand.
 
-/// Every model of the case's trials, and one.
-fn pool(case: &Case) -> Vec<Model> {
-    let mut list: Vec<Model> = case.trials.iter().filter_map(|trial| trial.fit).collect();
-    list.push([1.0, 0.0, 0.0, 0.0, 1.0, 0.0, 0.0, 0.0, 1.0]);
+/// Every model of the case's trials, and the identity.
+fn pool<F: Proved>(case: &Case<F>) -> Vec<F::Model> {
+    let mut list: Vec<F::Model> = case.trials.iter().filter_map(|trial| trial.fit).collect();
+    list.push(identity::<F>());
     list
 }
 
-#[test]
-fn hand_made_states() {
+fn hand_made_states<F: Proved>() {
     let random = &mut Random::new(47);
     let mut tally = Tally::default();
     let mut folded = Folded::default();
     let mut ratios = Ratios::default();
+    let mut values = [0; 2];
     let count = runs(20_000, 50);
     for i in 0..count {
-        let case = any_stops(random, i);
+        let case = any_stops::<F>(random, i);
         let mut words = opening(&case);
-        hand_made(random, &mut words, &pool(&case));
+        hand_made::<F>(random, &mut words, &pool(&case));
         let trial = case.trials.first().copied().unwrap_or_default();
         let mut handed = Handed::of(&case, &trial);
         match random.below(8) {
-            0 => handed.damage(random),
+            0 => handed.damage::<F>(random),
             // As many marks as a hand-made state says: three, or none.
-            1 => handed.marks.truncate(4 * words[5].min(2000) as usize),
+            1 => {
+                let n = words[5].min(F::MOST as u64) as usize;
+                handed.marks.truncate(F::WIDTH * n);
+            }
             _ => {}
         }
-        let told = compare(&words, &handed.call());
+        let told = compare::<F>(&words, &handed.call());
+        let answer = parts(&told).1;
         tally.add(number_of(&told));
-        folded.add(&words, &handed.call(), &told[25..]);
-        // A fit was measured by the ratio.
-        if told[25] >= 2 {
-            ratios.add(f64::from_bits(words[RATIO_AT]));
+        folded.add::<F>(&words, &handed.call(), answer);
+        // A fit was measured by the ratio, and by the family's value.
+        if answer[0] >= 2 {
+            ratios.add(f64::from_bits(words[F::RATIO_AT]));
+            let value = State::<F>::of_words(&words).family;
+            values[usize::from(value.tested().is_ok())] += 1;
         }
     }
     tally.show("trials on hand-made states");
-    println!("trials on hand-made states: {folded:?} {ratios:?}");
+    println!("trials on hand-made states: {folded:?} {ratios:?} {values:?}");
     if count >= LONG {
         tally.met(&[0, 1, 5, 6, 7, 8, 10]);
         folded.thresholds_met();
         ratios.all_met();
+        assert!(all_came(&values) || F::NUMBERS == 0);
     }
 }
 
 /// Words to replace, by their places.
 type Changes<'a> = &'a [(usize, u64)];
 
-/// A fresh state of the worked run with some words replaced, and a good trial.
-fn worked(changes: Changes) -> Told {
-    let case = oracle::example::sheet();
+/// A fresh state of the worked run with some words replaced, and a trial.
+fn worked_by<F: Proved>(changes: Changes, model: F::Model) -> Told {
+    let case = F::example();
     let mut words = opening(&case);
     for &(place, word) in changes {
         words[place] = word;
     }
-    compare(&words, &Handed::of(&case, &case.trials[0]).call())
+    let trial = Trial {
+        fit: Some(model),
+        refit: None,
+    };
+    compare::<F>(&words, &Handed::of(&case, &trial).call())
 }
 
-#[test]
-fn states_at_the_limits() {
+/// The same with a good trial.
+fn worked<F: Proved>(changes: Changes) -> Told {
+    worked_by::<F>(changes, identity::<F>())
+}
+
+fn states_at_the_limits<F: Proved>() {
     let top = u64::from(u32::MAX);
+    let n = F::example().n() as u64;
     let cases: [(Changes, u64, u64); 14] = [
         (&[(6, top), (10, top)], 0, 10),
         (&[(6, top - 1), (10, top)], 0, 10),
@@ -655,79 +728,78 @@ fn states_at_the_limits() {
         (&[(6, 1), (7, 1), (8, 1), (9, 1)], 4, 4),
         (&[(5, u64::MAX)], 0, 5),
         (&[(5, 1 << 62)], 0, 5),
-        (&[(5, (1 << 32) + 5)], 0, 5),
+        (&[(5, (1 << 32) + n)], 0, 5),
         // Words that a count takes modulo 2^32.
         (&[(6, 1 << 32), (7, 7 << 32)], 4, 4),
     ];
     for (changes, outcome, number) in cases {
-        let told = worked(changes);
-        assert_eq!(told[25..27], [outcome, number], "{changes:?}");
+        let told = worked::<F>(changes);
+        assert_eq!(parts(&told).1[..2], [outcome, number], "{changes:?}");
     }
     // The one trial that it reads ends it.
-    let told = worked(&[(2, 0), (10, 5)]);
+    let told = worked::<F>(&[(2, 0), (10, 5)]);
     assert_eq!((told[6], told[10]), (1, 0));
 }
 
+/// Every mark behind the horizon: the identity with its signs changed.
+fn behind<F: Proved>() -> F::Model {
+    identity::<F>().each(|a| -a)
+}
+
 /// Options that no opening accepts are used as they are.
-#[test]
-fn hand_made_thresholds() {
-    let case = oracle::example::sheet();
-    let tried = |words: &Words, model| {
-        let trial = Trial {
-            fit: Some(model),
-            refit: None,
-        };
-        compare(words, &Handed::of(&case, &trial).call())
-    };
+fn hand_made_thresholds<F: Proved>() {
     let infinite = f64::INFINITY.to_bits();
-    let mut words = opening(&case);
-    words[0] = infinite;
-    assert_eq!(tried(&words, BEHIND)[25..], [4, 5, infinite, 5]);
+    let n = F::example().n() as u64;
+    let told = worked_by::<F>(&[(0, infinite)], behind::<F>());
+    assert_eq!(*parts(&told).1, [4, n, infinite, n]);
     for nan in NANS {
-        words[0] = nan;
-        words[1] = nan;
-        let told = tried(&words, I);
-        assert_eq!(told[25..], [2, 0, 0, 0]);
+        let changes = [(0, nan), (1, nan)];
+        let told = worked::<F>(&changes);
+        assert_eq!(*parts(&told).1, [2, 0, 0, 0]);
         assert_eq!(told[..2], [0x7ff8_0000_0000_0000; 2]);
-        assert_eq!(tried(&words, BEHIND)[25..], [2, 0, 0, 5]);
+        let told = worked_by::<F>(&changes, behind::<F>());
+        assert_eq!(*parts(&told).1, [2, 0, 0, n]);
     }
 }
 
 /// A ratio that no opening accepts is used as it is, and comes back; beyond
-/// doesn't depend on it. Under I four marks are off by nothing, and one by
-/// three along v: by an infinite ratio the four are at a NaN.
-#[test]
-fn hand_made_ratios() {
+/// doesn't depend on it. Under the identity four marks are off by nothing, and
+/// the others by three along v: by an infinite ratio the four are at a NaN.
+fn hand_made_ratios<F: Proved>() {
     let (inf, nan) = (f64::INFINITY, f64::NAN);
+    let n = F::example().n() as u64;
+    let off = n - 4;
     for (thresh, ratio, outcome, count, rms) in [
-        (2.0, 0.0, 4, 5, 0.0),
-        (2.0, -0.0, 4, 5, 0.0),
+        (2.0, 0.0, 4, n, 0.0),
+        (2.0, -0.0, 4, n, 0.0),
         (2.0, -1.0, 4, 4, 0.0),
-        (3.0, -1.0, 4, 5, 1.8f64.sqrt()),
-        (2.0, 5e-324, 4, 5, 0.0),
+        (3.0, -1.0, 4, n, (9.0 * off as f64 / n as f64).sqrt()),
+        (2.0, 5e-324, 4, n, 0.0),
         (2.0, f64::MAX, 4, 4, 0.0),
-        (inf, f64::MAX, 4, 5, inf),
+        (inf, f64::MAX, 4, n, inf),
         (2.0, inf, 2, 0, 0.0),
-        (inf, inf, 2, 1, 0.0),
-        (inf, -inf, 2, 1, 0.0),
+        (inf, inf, 2, off, 0.0),
+        (inf, -inf, 2, off, 0.0),
         (inf, nan, 2, 0, 0.0),
     ] {
-        let changes = [(0, thresh.to_bits()), (RATIO_AT, ratio.to_bits())];
-        let told = worked(&changes);
+        let changes = [(0, thresh.to_bits()), (F::RATIO_AT, ratio.to_bits())];
+        let told = worked::<F>(&changes);
         let expected = [outcome, count, rms.to_bits(), 0];
-        assert_eq!(told[25..], expected, "{thresh:e} {ratio:e}");
-        assert_eq!(f64::from_bits(told[RATIO_AT]).is_nan(), ratio.is_nan());
-        assert!(ratio.is_nan() || told[RATIO_AT] == ratio.to_bits());
+        assert_eq!(*parts(&told).1, expected, "{thresh:e} {ratio:e}");
+        assert_eq!(f64::from_bits(told[F::RATIO_AT]).is_nan(), ratio.is_nan());
+        assert!(ratio.is_nan() || told[F::RATIO_AT] == ratio.to_bits());
         // Scored by any count, the rms is no NaN.
-        let told = worked(&[changes[0], changes[1], (3, 0)]);
-        assert_eq!(told[25..27], [4, count]);
-        assert!(!f64::from_bits(told[27]).is_nan());
+        let told = worked::<F>(&[changes[0], changes[1], (3, 0)]);
+        assert_eq!(parts(&told).1[..2], [4, count]);
+        assert!(!f64::from_bits(parts(&told).1[2]).is_nan());
+        // Beyond doesn't depend on it.
+        let told = worked_by::<F>(&changes, behind::<F>());
+        assert_eq!(parts(&told).1[3], n);
     }
 }
 
 /// A winner made by hand: its count is the largest there is, or its rms a NaN.
-#[test]
-fn hand_made_winners() {
+fn hand_made_winners<F: Proved>() {
     let winner = |count: u64, rms: f64| [(11, 1), (12, count), (13, 77), (14, rms.to_bits())];
     for (count, rms, outcome) in [
         (u64::from(u32::MAX), 0.0, 3),
@@ -739,7 +811,15 @@ fn hand_made_winners() {
         (3, 0.0, 4),
         ((9 << 32) + 3, 0.0, 4),
     ] {
-        let told = worked(&winner(count, rms));
-        assert_eq!(told[25], outcome, "{count} {rms:e}");
+        let told = worked::<F>(&winner(count, rms));
+        assert_eq!(parts(&told).1[0], outcome, "{count} {rms:e}");
+    }
+    // Each number of its model comes back where it stood.
+    let numbers: Vec<(usize, u64)> = (0..F::SIZE)
+        .map(|k| (MODEL_AT + k, (0.5 + k as f64).to_bits()))
+        .collect();
+    let told = worked::<F>(&[&winner(u64::from(u32::MAX), 0.0)[..], &numbers].concat());
+    for (place, word) in numbers {
+        assert_eq!(told[place], word);
     }
 }

@@ -3,10 +3,7 @@
 //! readers.
 
 use compare::{Tally, cases, is_long, junk, junk_bytes};
-use oracle::Mark;
-use oracle::book::{
-    OPTIONS_BYTES, Options, RATIO_AT, SHORT_OPTIONS_BYTES, State, TRIAL_BYTES, Words,
-};
+use oracle::book::{OPTIONS_BYTES, Options, SHORT_OPTIONS_BYTES, State, TRIAL_BYTES};
 use oracle::cases::Random;
 use oracle::example::{I, SQUARE, T};
 use oracle::pick_cases::{any_stops, runs};
@@ -17,6 +14,7 @@ use oracle::writing_cases::{
     COUNTS, ITERS, MARKS, limits, mark, mark_record, options, options_record, rooms, trial,
     trial_record,
 };
+use oracle::{Family, Mark, Sheet};
 use proved::pick;
 use proved::writing::{write_mark, write_options, write_trial};
 use std::fmt::Debug;
@@ -85,7 +83,7 @@ impl Numbers for OptionsNumbers {
 
     /// An opening that refuses nothing else, from the words of its state.
     fn read(record: &[u8]) -> Result<Self, u32> {
-        let mut words: Words = [0; 25];
+        let mut words = [0; Sheet::WORDS];
         match pick::open(record, &SQUARE, &STOPS, &mut words) {
             0 => Ok(Self {
                 thresh: f64::from_bits(words[0]),
@@ -93,7 +91,7 @@ impl Numbers for OptionsNumbers {
                 max_iters: words[2].try_into().expect("a count"),
                 min_inliers: words[3].try_into().expect("a count"),
                 refit_mark: words[4].try_into().expect("a mark"),
-                ratio: f64::from_bits(words[RATIO_AT]),
+                ratio: f64::from_bits(words[Sheet::RATIO_AT]),
             }),
             number => Err(number),
         }
@@ -164,7 +162,7 @@ fn tried(record: &[u8], refit: bool) -> (u64, u64, Vec<f64>) {
         refit,
         ..Options::new(2.0)
     };
-    let state = State::open(options, &SQUARE, &STOPS).expect("an accepted opening");
+    let state = State::open(Sheet, options, &SQUARE, &STOPS).expect("an accepted opening");
     let mut out = [0; 29];
     let answer = pick::trial(&state.words(), record, &SQUARE, &STOPS, &mut out);
     assert_eq!(answer, 0);

@@ -1,14 +1,16 @@
 //! 01's picker, read from its text alone, with what 02's order 2 adds to a
-//! trial's answer and order 3 to the options: the records, the refusals in
-//! their orders, judging a trial, the book, a trial on any state, and the
-//! winner's indices. Nothing here is taken from `ransac_fit`, so that each can
-//! be held to the other.
+//! trial's answer and order 3 to the options, and for any family, as order 5
+//! has it: the records, the refusals in their orders, judging a trial, the
+//! book, a trial on any state, and the winner's indices. Nothing here is taken
+//! from `ransac_fit`, so that each can be held to the other.
 //!
-//! Marks are one flat list, four numbers each. A refusal is its number.
+//! Marks are one flat list. A refusal is its number.
 
-use crate::entries::{FEW, POINT, RECORD, ROOM, SHAPE, ratio_allowed};
-use crate::records::bits;
-use crate::{Mark, Model, Trial, beyond, distance};
+use crate::entries::{FEW, RECORD, ROOM, SHAPE, allowed, ratio_allowed, shaped};
+use crate::family::{Family, Numbers};
+use crate::records::{bits, put};
+use crate::sheet::Sheet;
+use crate::{Model, Trial};
 
 /// Refusal 2 THRESH.
 pub const THRESH: u32 = 2;
@@ -26,15 +28,16 @@ pub const NONE: u32 = 11;
 /// The most trials that a run reads.
 pub const MOST_ITERS: u32 = 100_000;
 
-/// Bytes of the options, of the options without a ratio, a trial and a winner.
+/// Bytes of the options, of the options without a ratio, and of a sheet's trial
+/// and winner.
 pub const OPTIONS_BYTES: usize = 40;
 pub const SHORT_OPTIONS_BYTES: usize = 32;
-pub const TRIAL_BYTES: usize = 152;
+pub const TRIAL_BYTES: usize = Sheet::TRIAL_BYTES;
 pub const WINNER_BYTES: usize = 88;
 
-/// Where a trial's two models begin.
+/// Where a trial's fit begins, and among a state's words the winner's model.
 pub const FIT_AT: usize = 8;
-pub const REFIT_AT: usize = 80;
+pub const MODEL_AT: usize = 15;
 
 fn double_at(bytes: &[u8], at: usize) -> f64 {
     f64::from_le_bytes(bytes[at..at + 8].try_into().expect("eight bytes"))
@@ -130,8 +133,8 @@ impl Options {
 // Trial records.
 
 /// A model where its mark says so; unmarked it has to be zero bytes.
-fn model_at(bytes: &[u8], at: usize, marked: bool) -> Result<Option<Model>, u32> {
-    let part = &bytes[at..at + 72];
+fn model_at<M: Numbers>(bytes: &[u8], at: usize, marked: bool) -> Result<Option<M>, u32> {
+    let part = &bytes[at..at + 8 * M::COUNT];
     if !marked {
         return if all_zero(part) {
             Ok(None)
@@ -139,16 +142,16 @@ fn model_at(bytes: &[u8], at: usize, marked: bool) -> Result<Option<Model>, u32>
             Err(RECORD)
         };
     }
-    let model: Model = std::array::from_fn(|k| double_at(part, 8 * k));
-    match model.iter().all(|h| h.is_finite()) {
+    let model = M::from_fn(|k| double_at(part, 8 * k));
+    match model.as_ref().iter().all(|h| h.is_finite()) {
         true => Ok(Some(model)),
         false => Err(RECORD),
     }
 }
 
-/// A trial of its 152 bytes, or 1.
-pub fn trial_of_record(bytes: &[u8]) -> Result<Trial, u32> {
-    if bytes.len() != TRIAL_BYTES || bytes[0] > 1 || bytes[1] > bytes[0] {
+/// A trial of its bytes, or 1.
+pub fn trial_of_record<F: Family>(bytes: &[u8]) -> Result<Trial<F::Model>, u32> {
+    if bytes.len() != F::TRIAL_BYTES || bytes[0] > 1 || bytes[1] > bytes[0] {
         return Err(RECORD);
     }
     if !all_zero(&bytes[2..FIT_AT]) {
@@ -156,19 +159,20 @@ pub fn trial_of_record(bytes: &[u8]) -> Result<Trial, u32> {
     }
     Ok(Trial {
         fit: model_at(bytes, FIT_AT, bytes[0] == 1)?,
-        refit: model_at(bytes, REFIT_AT, bytes[1] == 1)?,
+        refit: model_at(bytes, F::REFIT_AT, bytes[1] == 1)?,
     })
 }
 
 /// The record of any trial, one that would be refused too.
-pub fn trial_record(trial: &Trial) -> [u8; TRIAL_BYTES] {
-    let mut bytes = [0; TRIAL_BYTES];
-    for (place, at, model) in [(0, FIT_AT, trial.fit), (1, REFIT_AT, trial.refit)] {
+pub fn trial_record<M: Numbers>(trial: &Trial<M>) -> Vec<u8> {
+    let part = 8 * M::COUNT;
+    let mut bytes = vec![0; FIT_AT + 2 * part];
+    for (place, model) in [trial.fit, trial.refit].into_iter().enumerate() {
         if let Some(model) = model {
             bytes[place] = 1;
-            let numbers = model.iter().flat_map(|h| h.to_le_bytes());
-            for (byte, value) in bytes[at..].iter_mut().zip(numbers) {
-                *byte = value;
+            let eights = bytes[FIT_AT + place * part..].chunks_exact_mut(8);
+            for (eight, h) in eights.zip(model.as_ref()) {
+                eight.copy_from_slice(&h.to_le_bytes());
             }
         }
     }
@@ -178,16 +182,16 @@ pub fn trial_record(trial: &Trial) -> [u8; TRIAL_BYTES] {
 // Marks.
 
 /// 5, 6, 7; where a run has its n, the list's is the same.
-fn marks_tested(marks: &[f64], n: Option<u64>) -> Result<&[Mark], u32> {
-    let (list, rest) = marks.as_chunks();
-    let other = n.is_some_and(|n| n != list.len() as u64);
-    if !rest.is_empty() || list.len() > 2000 || other {
+fn marks_tested<F: Family>(marks: &[f64], n: Option<u64>) -> Result<&[F::Mark], u32> {
+    let list = shaped::<F>(marks)?;
+    if n.is_some_and(|n| n != list.len() as u64) {
         return Err(SHAPE);
     }
-    if !marks.iter().all(|x| (-1e9..=1e9).contains(x)) {
-        return Err(POINT);
+    allowed(marks)?;
+    if list.len() < F::FEWEST {
+        return Err(FEW);
     }
-    if list.len() < 4 { Err(FEW) } else { Ok(list) }
+    Ok(list)
 }
 
 // Judging a trial.
@@ -200,30 +204,39 @@ pub struct Call<'a> {
     pub stops: &'a [u32],
 }
 
+/// What the book is fed of an opening: by what the marks are measured, the
+/// options, and how many marks there are.
+#[derive(Clone, Copy, Debug)]
+pub struct Fed<F> {
+    pub family: F,
+    pub options: Options,
+    pub n: u64,
+}
+
 /// A scored trial: the standing model, and the stop list's entry for its count.
 #[derive(Clone, Copy, Debug)]
-pub struct Scored {
-    pub model: Model,
+pub struct Scored<M> {
+    pub model: M,
     pub count: u32,
     pub rms: f64,
     pub stop: u32,
 }
 
 #[derive(Clone, Copy, Debug)]
-pub enum Judged {
+pub enum Judged<M> {
     Refused(u32),
     Empty,
     Few(u32),
-    Scored(Scored),
+    Scored(Scored<M>),
 }
 
 /// How many marks are beyond under the fit, also where the refit stands; 0
 /// without a fit.
-fn beyond_under_fit(trial: &Trial, marks: &[Mark]) -> u32 {
+fn beyond_under_fit<F: Family>(trial: &Trial<F::Model>, marks: &[F::Mark]) -> u32 {
     let mut count = 0;
     if let Some(fit) = &trial.fit {
         for mark in marks {
-            if beyond(fit, mark) {
+            if F::beyond(fit, mark) {
                 count += 1;
             }
         }
@@ -232,10 +245,11 @@ fn beyond_under_fit(trial: &Trial, marks: &[Mark]) -> u32 {
 }
 
 /// How many marks lie within the threshold, and the rms of their distances.
-fn score(options: &Options, model: &Model, marks: &[Mark]) -> (u32, f64) {
-    let Options { thresh, ratio, .. } = *options;
+fn score<F: Family>(fed: &Fed<F>, model: &F::Model, marks: &[F::Mark]) -> (u32, f64) {
+    let Options { thresh, ratio, .. } = fed.options;
     let (mut count, mut sum) = (0, 0.0);
-    for d in marks.iter().map(|mark| distance(model, mark, ratio)) {
+    for mark in marks {
+        let d = fed.family.distance(model, mark, ratio);
         if d <= thresh {
             count += 1;
             sum += d * d;
@@ -250,36 +264,45 @@ fn score(options: &Options, model: &Model, marks: &[Mark]) -> (u32, f64) {
 
 /// Refuses in the order 5, 6, 7, 8, 1, or judges. With it, how many marks are
 /// beyond under the fit; 0 where it refuses.
-pub fn judge(options: &Options, n: u64, call: &Call) -> (Judged, u32) {
-    match tested(n, call) {
+pub fn judge<F: Family>(fed: &Fed<F>, call: &Call) -> (Judged<F::Model>, u32) {
+    match tested::<F>(fed.n, call) {
         Ok((trial, marks)) => {
-            let judged = judged_trial(options, &trial, marks, call.stops);
-            (judged, beyond_under_fit(&trial, marks))
+            let judged = judged_trial(fed, &trial, marks, call.stops);
+            (judged, beyond_under_fit::<F>(&trial, marks))
         }
         Err(number) => (Judged::Refused(number), 0),
     }
 }
 
-/// The trial and the marks of a call that isn't refused.
-fn tested<'a>(n: u64, call: &Call<'a>) -> Result<(Trial, &'a [Mark]), u32> {
-    let marks = marks_tested(call.marks, Some(n))?;
+/// A trial, and marks.
+type TrialAndMarks<'a, F> = (Trial<<F as Family>::Model>, &'a [<F as Family>::Mark]);
+
+/// Those of a call that isn't refused.
+fn tested<'a, F: Family>(n: u64, call: &Call<'a>) -> Result<TrialAndMarks<'a, F>, u32> {
+    let marks = marks_tested::<F>(call.marks, Some(n))?;
     if call.stops.len() != marks.len() + 1 {
         return Err(STOPS);
     }
-    Ok((trial_of_record(call.record)?, marks))
+    Ok((trial_of_record::<F>(call.record)?, marks))
 }
 
-fn judged_trial(options: &Options, trial: &Trial, marks: &[Mark], stops: &[u32]) -> Judged {
+fn judged_trial<F: Family>(
+    fed: &Fed<F>,
+    trial: &Trial<F::Model>,
+    marks: &[F::Mark],
+    stops: &[u32],
+) -> Judged<F::Model> {
+    let options = &fed.options;
     let Some(fit) = trial.fit else {
         return Judged::Empty;
     };
-    let of_fit = score(options, &fit, marks);
+    let of_fit = score(fed, &fit, marks);
     if of_fit.0 < options.min_inliers {
         return Judged::Few(of_fit.0);
     }
     let (mut model, mut standing) = (fit, of_fit);
     if let (true, Some(refit)) = (options.refit, trial.refit) {
-        let of_refit = score(options, &refit, marks);
+        let of_refit = score(fed, &refit, marks);
         if of_refit.0 >= options.min_inliers {
             (model, standing) = (refit, of_refit);
         }
@@ -297,11 +320,11 @@ fn judged_trial(options: &Options, trial: &Trial, marks: &[Mark], stops: &[u32])
 // The book.
 
 #[derive(Clone, Copy, Debug)]
-pub struct Best {
+pub struct Best<M = Model> {
     pub count: u32,
     pub number: u32,
     pub rms: f64,
-    pub model: Model,
+    pub model: M,
 }
 
 #[derive(Clone, Copy, Debug)]
@@ -322,16 +345,16 @@ pub struct Answer {
 }
 
 #[derive(Clone, Copy, Debug)]
-pub struct Book {
+pub struct Book<M = Model> {
     pub read: u32,
     pub empty: u32,
     pub few: u32,
     pub scored: u32,
     pub bound: u32,
-    pub winner: Option<Best>,
+    pub winner: Option<Best<M>>,
 }
 
-impl Book {
+impl<M: Numbers> Book<M> {
     pub fn opened(options: &Options) -> Self {
         Self {
             read: 0,
@@ -348,16 +371,16 @@ impl Book {
     }
 
     /// Books one call: 10 at the end, then what the trial is judged to be.
-    pub fn call(&mut self, options: &Options, n: u64, call: &Call) -> Answer {
+    pub fn call<F: Family<Model = M>>(&mut self, fed: &Fed<F>, call: &Call) -> Answer {
         if self.ended() {
             return Answer::refused(ENDED);
         }
-        let (judged, beyond) = judge(options, n, call);
-        let outcome = self.booked(options.max_iters, judged);
+        let (judged, beyond) = judge(fed, call);
+        let outcome = self.booked(fed.options.max_iters, judged);
         Answer { outcome, beyond }
     }
 
-    fn booked(&mut self, max_iters: u32, judged: Judged) -> Outcome {
+    fn booked(&mut self, max_iters: u32, judged: Judged<M>) -> Outcome {
         if let Judged::Refused(number) = judged {
             return Outcome::Refused(number);
         }
@@ -377,7 +400,7 @@ impl Book {
     }
 
     /// A scored trial, already counted as read.
-    fn enter(&mut self, max_iters: u32, scored: Scored) -> Outcome {
+    fn enter(&mut self, max_iters: u32, scored: Scored<M>) -> Outcome {
         let Scored {
             model,
             count,
@@ -409,36 +432,55 @@ impl Book {
 // A run's state, hand-made ones too.
 
 /// A state as flat words; the comparison's interface has it so.
-pub type Words = [u64; 25];
-
-/// Where the ratio stands among them: last, behind the winner's.
-pub const RATIO_AT: usize = 24;
+pub type Words = Vec<u64>;
 
 #[derive(Clone, Copy, Debug)]
-pub struct State {
+pub struct State<F: Family = Sheet> {
+    pub family: F,
     pub options: Options,
     pub n: u64,
-    pub book: Book,
+    pub book: Book<F::Model>,
 }
 
 impl State {
-    /// Opening from the type: 2 to 4, 16, 5 to 8.
-    pub fn open(options: Options, marks: &[f64], stops: &[u32]) -> Result<Self, u32> {
+    /// A sheet's opening from a record: 1, and the same as from the type.
+    pub fn open_record(record: &[u8], marks: &[f64], stops: &[u32]) -> Result<Self, u32> {
+        Self::open_records([record, &[]], marks, stops)
+    }
+}
+
+impl<F: Family> State<F> {
+    /// Opening from the types: 2 to 4, 16, 5 to 8, and 17 of a form's camera.
+    pub fn open(family: F, options: Options, marks: &[f64], stops: &[u32]) -> Result<Self, u32> {
         options.tested()?;
-        let n = marks_tested(marks, None)?.len();
+        let n = marks_tested::<F>(marks, None)?.len();
         if stops.len() != n + 1 {
             return Err(STOPS);
         }
+        family.tested()?;
         Ok(Self {
+            family,
             options,
             n: n as u64,
             book: Book::opened(&options),
         })
     }
 
-    /// Opening from a record: 1, and the same.
-    pub fn open_record(record: &[u8], marks: &[f64], stops: &[u32]) -> Result<Self, u32> {
-        Self::open(Options::of_record(record)?, marks, stops)
+    /// Opening from records of the options and of the family's value: 1 of
+    /// either, and the same.
+    pub fn open_records(records: [&[u8]; 2], marks: &[f64], stops: &[u32]) -> Result<Self, u32> {
+        let options = Options::of_record(records[0])?;
+        let family = F::of_record(records[1])?;
+        Self::open(family, options, marks, stops)
+    }
+
+    /// What the book is fed of it.
+    pub fn fed(&self) -> Fed<F> {
+        Fed {
+            family: self.family,
+            options: self.options,
+            n: self.n,
+        }
     }
 
     /// A trial on any state. The options are used as they are; refused, the
@@ -454,18 +496,18 @@ impl State {
         if read >= MOST_ITERS || empty > read || few > read || scored > read {
             return Answer::refused(ENDED);
         }
-        self.book.call(&self.options, self.n, call)
+        self.book.call(&self.fed(), call)
     }
 
     /// The winner's indices for a list with `room` places: 11, 5, 6, 7, 9.
     pub fn winner_indices(&self, marks: &[f64], room: usize) -> Result<Vec<u32>, u32> {
         let winner = self.book.winner.ok_or(NONE)?;
-        let marks = marks_tested(marks, Some(self.n))?;
+        let marks = marks_tested::<F>(marks, Some(self.n))?;
         if room < marks.len() {
             return Err(ROOM);
         }
         let Options { thresh, ratio, .. } = self.options;
-        let within = |mark: &Mark| distance(&winner.model, mark, ratio) <= thresh;
+        let within = |mark: &F::Mark| self.family.distance(&winner.model, mark, ratio) <= thresh;
         let all = (0..).zip(marks);
         Ok(all
             .filter(|(_, mark)| within(mark))
@@ -476,7 +518,7 @@ impl State {
     /// Every NaN is written as one; without a winner its words are 0.
     pub fn words(&self) -> Words {
         let (options, book) = (&self.options, &self.book);
-        let mut words = [0; 25];
+        let mut words = vec![0; F::WORDS];
         words[..2].copy_from_slice(&[bits(options.thresh), bits(options.confidence)]);
         words[2] = options.max_iters.into();
         words[3] = options.min_inliers.into();
@@ -490,24 +532,28 @@ impl State {
             words[11] = 1;
             words[12..14].copy_from_slice(&[best.count.into(), best.number.into()]);
             words[14] = bits(best.rms);
-            crate::records::put(&mut words, 15, &best.model);
+            put(&mut words, MODEL_AT, best.model.as_ref());
         }
-        words[RATIO_AT] = bits(options.ratio);
+        words[F::RATIO_AT] = bits(options.ratio);
+        put(&mut words, F::RATIO_AT + 1, self.family.numbers());
         words
     }
 
     /// The state of any words. Counts are taken modulo 2^32.
-    pub fn of_words(words: &Words) -> Self {
+    pub fn of_words(words: &[u64]) -> Self {
         let count = |place: usize| words[place] as u32;
         let double = |place: usize| f64::from_bits(words[place]);
+        let behind = words[F::RATIO_AT + 1..].iter();
+        let numbers: Vec<f64> = behind.map(|&word| f64::from_bits(word)).collect();
         Self {
+            family: F::of_numbers(&numbers),
             options: Options {
                 thresh: double(0),
                 confidence: double(1),
                 max_iters: count(2),
                 min_inliers: count(3),
                 refit: words[4] == 1,
-                ratio: double(RATIO_AT),
+                ratio: double(F::RATIO_AT),
             },
             n: words[5],
             book: Book {
@@ -520,7 +566,7 @@ impl State {
                     count: count(12),
                     number: count(13),
                     rms: double(14),
-                    model: std::array::from_fn(|k| double(15 + k)),
+                    model: F::Model::from_fn(|k| double(MODEL_AT + k)),
                 }),
             },
         }

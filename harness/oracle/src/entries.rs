@@ -1,11 +1,14 @@
-//! The sheet's entries as 01 has them: the original functions with 01's
-//! refusals in front, in 01's order, and 02's 16 where it belongs.
+//! The entries as 01 has them for sheets and 02's order 5 for forms: the
+//! original functions with the refusals in front, in their order, and 02's 16
+//! where it belongs.
 //!
-//! Marks are one flat list, four numbers each. A side is 0 for the sheet and
-//! anything else for the pixels. Results go to a lent list: a refusal leaves
-//! it as it was, and places past the last written stay.
+//! Marks are one flat list, four numbers each or a form's five. A side is 0 for
+//! the sheet and anything else for the pixels. Results go to a lent list: a
+//! refusal leaves it as it was, and places past the last written stay.
 
-use crate::sheet::{self, Mark, Measure, Model, Point};
+use crate::family::{Family, Measure, Numbers};
+use crate::form::{self, Form};
+use crate::sheet::{self, Mark, Point, Sheet};
 use vision_geometry::GeometryError;
 
 /// Refusal 1 RECORD.
@@ -29,13 +32,23 @@ pub const RATIO: u32 = 16;
 
 /// Three rows of three.
 pub type Matrix = [[f64; 3]; 3];
+/// Four rows of four.
+pub type Matrix4 = [[f64; 4]; 4];
 
-/// 5, then 6. The whole list is tested, whichever side is asked for.
-fn tested(marks: &[f64]) -> Result<(), u32> {
-    if !marks.len().is_multiple_of(4) || marks.len() > 8000 {
+/// 5 for a list that isn't one of whole marks, or too long.
+pub(crate) fn shaped<F: Family>(marks: &[f64]) -> Result<&[F::Mark], u32> {
+    let (list, rest) = F::Mark::chunks(marks);
+    if !rest.is_empty() || marks.len() > 8000 {
         return Err(SHAPE);
     }
-    allowed(marks)
+    Ok(list)
+}
+
+/// 5, then 6. The whole list is tested, whichever side is asked for.
+fn tested<F: Family>(marks: &[f64]) -> Result<&[F::Mark], u32> {
+    let list = shaped::<F>(marks)?;
+    allowed(marks)?;
+    Ok(list)
 }
 
 /// 6 for a number that is not finite or of magnitude above 1e9.
@@ -58,15 +71,10 @@ pub(crate) fn ratio_allowed(ratio: f64) -> Result<(), u32> {
     }
 }
 
-/// The marks of a flat list, without a cut-off last one.
-fn marks_of(marks: &[f64]) -> &[Mark] {
-    marks.as_chunks().0
-}
-
 /// One side's points.
 pub fn side_of(marks: &[f64], side: u32) -> Vec<Point> {
     let point = |&[x, y, u, v]: &Mark| if side == 0 { [x, y] } else { [u, v] };
-    marks_of(marks).iter().map(point).collect()
+    marks.as_chunks().0.iter().map(point).collect()
 }
 
 /// Writes the front of the lent list, or refuses with 9.
@@ -78,23 +86,43 @@ fn put(lent: &mut [f64], numbers: &[f64]) -> Result<(), u32> {
 
 /// Normalising: 5, 6, 12, 9. The points, x and y in turn, go to the lent list.
 pub fn normalize(marks: &[f64], side: u32, points: &mut [f64]) -> Result<Matrix, u32> {
-    tested(marks)?;
+    tested::<Sheet>(marks)?;
     let (list, matrix) = sheet::normalize_points_2d(&side_of(marks, side)).ok_or(SPREAD)?;
+    put(points, list.as_flattened())?;
+    Ok(matrix)
+}
+
+/// The same of a form's points: x, y and z in turn.
+pub fn normalize_form(marks: &[f64], points: &mut [f64]) -> Result<Matrix4, u32> {
+    let marks = tested::<Form>(marks)?.iter();
+    let world: Vec<_> = marks.map(|&[x, y, z, ..]| [x, y, z]).collect();
+    let (list, matrix) = form::normalize_points_3d(&world).ok_or(SPREAD)?;
     put(points, list.as_flattened())?;
     Ok(matrix)
 }
 
 /// Collinear: 5, 6. Not to be compared where [`closeness_differs`].
 pub fn collinear(marks: &[f64], side: u32) -> Result<bool, u32> {
-    tested(marks)?;
+    tested::<Sheet>(marks)?;
     Ok(sheet::points_are_collinear(&side_of(marks, side)))
 }
 
 /// Rows: 5, 6, 7, 13, 14, 12, 9. From 7 to 12 they are `dlt_homography`'s own.
 /// Not to be compared where [`closeness_differs`] on either side.
 pub fn rows(marks: &[f64], rows: &mut [f64]) -> Result<(), u32> {
-    tested(marks)?;
-    let list = sheet::dlt_rows(marks_of(marks)).map_err(|error| number(&error))?;
+    let marks = tested::<Sheet>(marks)?;
+    let list = sheet::dlt_rows(marks).map_err(|error| number(&error))?;
+    put(rows, &list)
+}
+
+/// A form's rows: 5, 6, 7, 12, 9. 7 and 12 are `dlt`'s own.
+pub fn rows_form(marks: &[f64], rows: &mut [f64]) -> Result<(), u32> {
+    let marks = tested::<Form>(marks)?;
+    let list = form::dlt_rows_3d(marks).map_err(|error| match error {
+        GeometryError::InsufficientData { need: 6, .. } => FEW,
+        GeometryError::Singular => SPREAD,
+        other => panic!("no refusal of the order: {other}"),
+    })?;
     put(rows, &list)
 }
 
@@ -112,14 +140,21 @@ fn number(error: &GeometryError) -> u32 {
     }
 }
 
-/// Distance: 1 for the model, then 6 for the mark, then 16 for the ratio.
-pub fn distance(model: &Model, mark: &Mark, ratio: f64) -> Result<Measure, u32> {
-    if !crate::ensure_finite(model) {
+/// Distance: 1 for the model, then 6 for the mark, then 16 for the ratio, then
+/// 17 for a form's camera.
+pub fn distance<F: Family>(
+    family: &F,
+    model: &F::Model,
+    mark: &F::Mark,
+    ratio: f64,
+) -> Result<Measure, u32> {
+    if !crate::ensure_finite(model.as_ref()) {
         return Err(RECORD);
     }
-    allowed(mark)?;
+    allowed(mark.as_ref())?;
     ratio_allowed(ratio)?;
-    Ok(sheet::measure(model, mark, ratio))
+    family.tested()?;
+    Ok(family.measure(model, mark, ratio))
 }
 
 /// The first closeness test: at most 1e-9 by the root of the sum of squares.

@@ -3,7 +3,7 @@
 use crate::book::Options;
 use crate::pick_cases::Case;
 use crate::sheet_cases::IDENTITY;
-use crate::{Model, Trial};
+use crate::{Model, Sheet, Trial};
 use std::path::PathBuf;
 
 /// The square, its middle mark printed three too far down.
@@ -36,6 +36,7 @@ counts 3 1 1 1
 pub fn sheet() -> Case {
     let trial = |fit| Trial { fit, refit: None };
     Case {
+        family: Sheet,
         options: Options {
             thresh: 2.0,
             confidence: 0.99,

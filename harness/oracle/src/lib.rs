@@ -9,6 +9,10 @@ pub mod cases;
 pub mod close_cases;
 pub mod entries;
 pub mod example;
+mod family;
+pub mod family_cases;
+mod form;
+pub mod form_cases;
 mod numbers;
 mod pick;
 pub mod pick_cases;
@@ -23,14 +27,16 @@ pub mod whole;
 pub mod writing;
 pub mod writing_cases;
 
+pub use family::{Family, Measure, Numbers};
+pub use form::{CAMERA, Camera, Form, FormMark, Point3, Pose, dlt_rows_3d, normalize_points_3d};
 pub use numbers::{
     NUMBER, dlt_rank_ok, ensure_finite, quadratic, root, root_refusal, solve_quadratic_real,
 };
 pub use pick::{
-    RansacOptions, Run, Trial, Winner, calculate_iterations, is_better_model, ransac_fit, rms,
-    stop_list,
+    RansacOptions, Replayed, Run, Trial, Winner, calculate_iterations, is_better_model, ransac_fit,
+    rms, stop_list,
 };
 pub use sheet::{
-    Mark, Measure, Model, Point, beyond, distance, dlt_rows, measure, normalize_points_2d,
+    Mark, Model, Point, Sheet, beyond, distance, dlt_rows, measure, normalize_points_2d,
     points_are_collinear,
 };

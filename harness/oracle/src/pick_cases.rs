@@ -1,15 +1,19 @@
-//! Runs to compare on: over the reference's whole domain, with stop lists of
-//! any numbers, and damaged.
+//! Runs to compare on, of any family: over the reference's whole domain, with
+//! stop lists of any numbers, and damaged.
 
 use crate::book::{
-    FIT_AT, OPTIONS_BYTES, Options, RATIO_AT, REFIT_AT, SHORT_OPTIONS_BYTES, TRIAL_BYTES,
+    FIT_AT, Fed, MODEL_AT, OPTIONS_BYTES, Options, SHORT_OPTIONS_BYTES, State, TRIAL_BYTES,
     WINNER_BYTES, Words, trial_record,
 };
 use crate::cases::{NANS, Random, asked, power_of_two, step, usually};
+use crate::family::Numbers;
+use crate::family_cases::{self, Cases, identity, seen};
 use crate::ratio_cases;
-use crate::sheet_cases::{self, IDENTITY};
+use crate::records;
+use crate::sheet::Sheet;
+use crate::sheet_cases;
 use crate::whole::Inputs;
-use crate::{Mark, Model, RansacOptions, Run, Trial, distance, ransac_fit, stop_list};
+use crate::{RansacOptions, Run, Trial, ransac_fit, stop_list};
 
 /// How many runs: one costs as much as so many cases of a leaf, so
 /// SALGHEMU_CASES is divided by that; or the test's own number, times
@@ -20,21 +24,22 @@ pub fn runs(usual: usize, cost: usize) -> usize {
 
 /// A run's inputs, none of them refused by itself.
 #[derive(Clone, Debug)]
-pub struct Case {
+pub struct Case<F: Cases = Sheet> {
+    pub family: F,
     pub options: Options,
     pub marks: Vec<f64>,
     pub stops: Vec<u32>,
-    pub trials: Vec<Trial>,
+    pub trials: Vec<Trial<F::Model>>,
 }
 
-impl Case {
+impl<F: Cases> Case<F> {
     pub fn n(&self) -> usize {
-        self.marks.len() / 4
+        self.mark_list().len()
     }
 
     /// The marks as the original wants them.
-    pub fn mark_list(&self) -> &[Mark] {
-        self.marks.as_chunks().0
+    pub fn mark_list(&self) -> &[F::Mark] {
+        F::Mark::chunks(&self.marks).0
     }
 
     /// The options as the original wants them; it has no ratio.
@@ -47,17 +52,41 @@ impl Case {
     }
 
     /// What the original gives for it.
-    pub fn ransac_fit(&self) -> Run {
+    pub fn ransac_fit(&self) -> Run<F::Model> {
         let (marks, options) = (self.mark_list(), self.ransac_options());
-        ransac_fit(marks, &options, self.options.ratio, &self.trials)
+        ransac_fit(
+            self.family,
+            marks,
+            &options,
+            self.options.ratio,
+            &self.trials,
+        )
     }
 
+    /// What the book is fed of its opening.
+    pub fn fed(&self) -> Fed<F> {
+        Fed {
+            family: self.family,
+            options: self.options,
+            n: self.n() as u64,
+        }
+    }
+
+    /// Its opening, by the book.
+    pub fn open(&self) -> State<F> {
+        let opening = State::open(self.family, self.options, &self.marks, &self.stops);
+        opening.unwrap_or_else(|number| panic!("refused {number}: {self:?}"))
+    }
+}
+
+impl Case {
     pub fn bytes(&self) -> Bytes {
+        let trials: Vec<Vec<u8>> = self.trials.iter().map(trial_record).collect();
         Bytes {
             options: self.options.record().to_vec(),
             marks: self.marks.iter().flat_map(|x| x.to_le_bytes()).collect(),
             stops: self.stops.iter().flat_map(|k| k.to_le_bytes()).collect(),
-            trials: self.trials.iter().flat_map(trial_record).collect(),
+            trials: trials.concat(),
         }
     }
 
@@ -93,6 +122,9 @@ impl Bytes {
 
 // Marks, each list with candidates for it.
 
+/// A list of marks, and models.
+type Marked<F> = (Vec<f64>, Vec<<F as crate::Family>::Model>);
+
 /// Differences whose lengths are 0, 1, 3, 5, 13 and 17, exactly.
 const EXACT: [[f64; 2]; 8] = [
     [0.0, 0.0],
@@ -105,63 +137,69 @@ const EXACT: [[f64; 2]; 8] = [
     [15.0, 8.0],
 ];
 
-/// The identity moved.
-fn moved([across, down]: [f64; 2]) -> Model {
-    let mut h = IDENTITY;
-    (h[2], h[5]) = (across, down);
+/// The identity; where points have a third coordinate, that is taken along x
+/// and y by whole numbers.
+fn plain<F: Cases>(random: &mut Random) -> F::Model {
+    let mut h = identity::<F>();
+    for row in 0..2 {
+        for place in 2..F::ROW - 1 {
+            h.as_mut()[row * F::ROW + place] = random.pick(&[0.0, -0.0, 1.0, -2.0]);
+        }
+    }
+    h
+}
+
+/// A model moved.
+fn moved<F: Cases>(mut h: F::Model, [across, down]: [f64; 2]) -> F::Model {
+    h.as_mut()[F::ROW - 1] += across;
+    h.as_mut()[2 * F::ROW - 1] += down;
     h
 }
 
 /// The same map written with other numbers, or with all signs changed: marks
 /// that were ahead of the horizon then are beyond.
-fn rescaled(random: &mut Random, h: Model) -> Model {
+fn rescaled<M: Numbers>(random: &mut Random, h: M) -> M {
     let by = match random.below(6) {
         0 => -1.0,
         1 => power_of_two(random.from_to(-500, 500) as i32),
         2 => 3.0,
         _ => 1.0,
     };
-    h.map(|a| a * by)
+    h.each(|a| a * by)
 }
 
 /// Whole numbers, so that distances are exact and thresholds are met.
-fn whole(random: &mut Random, n: usize) -> (Vec<f64>, Vec<Model>) {
+fn whole<F: Cases>(random: &mut Random, family: &F, n: usize) -> Marked<F> {
+    let truth = plain::<F>(random);
     let mut marks = Vec::new();
     for _ in 0..n {
-        let [x, y] = [0; 2].map(|_| random.from_to(-50, 50) as f64);
-        let [across, down] = random.pick(&EXACT);
-        marks.extend([x, y, x + across, y + down]);
+        let point = F::Mark::from_fn(|_| random.from_to(-50, 50) as f64);
+        let mark = seen(family, &truth, point, random.pick(&EXACT));
+        marks.extend_from_slice(mark.as_ref());
     }
     let pool = (0..random.from_to(1, 6)).map(|_| {
-        let h = moved(random.pick(&EXACT));
+        let h = moved::<F>(truth, random.pick(&EXACT));
         rescaled(random, h)
     });
     (marks, pool.collect())
 }
 
-/// Pixels that a homography gives, with some noise and with some marks wide
-/// of it; the candidates are near it, or poor.
-fn flattened(random: &mut Random, n: usize) -> (Vec<f64>, Vec<Model>) {
-    let h: Model = std::array::from_fn(|k| match k {
-        0 | 4 | 8 => 0.5 + random.unit(),
-        2 | 5 => 100.0 * random.unit(),
-        6 | 7 => 1e-4 * (random.unit() - 0.5),
-        _ => 0.2 * (random.unit() - 0.5),
-    });
+/// Pixels that a model gives, with some noise and with some marks wide of it;
+/// the candidates are near it, or poor.
+fn flattened<F: Cases>(random: &mut Random, family: &F, n: usize) -> Marked<F> {
+    let (h, reach) = family.truth(random);
     let noise = random.pick(&[0.0, 0.0, 1e-9, 0.1, 1.0]);
     let wide = random.pick(&[0, 1, 4, 7]);
     let mut marks = Vec::new();
     for _ in 0..n {
-        let [x, y] = [0; 2].map(|_| 1000.0 * random.unit());
-        let s = (h[6] * x + h[7] * y) + h[8];
+        let point = F::Mark::from_fn(|_| reach * random.unit());
         let away = if random.below(8) < wide { 500.0 } else { noise };
-        let u = ((h[0] * x + h[1] * y) + h[2]) / s + away * (random.unit() - 0.5);
-        let v = ((h[3] * x + h[4] * y) + h[5]) / s + away * (random.unit() - 0.5);
-        marks.extend([x, y, u, v]);
+        let off = [0; 2].map(|_| away * (random.unit() - 0.5));
+        marks.extend_from_slice(seen(family, &h, point, off).as_ref());
     }
     let pool = (0..random.from_to(1, 6)).map(|_| {
         let off = random.pick(&[0.0, 1e-15, 1e-6, 1e-3, 1.0]);
-        let near = h.map(|a| a + off * a * (random.unit() - 0.5));
+        let near = h.each(|a| a + off * a * (random.unit() - 0.5));
         rescaled(random, near)
     });
     (marks, pool.collect())
@@ -170,77 +208,82 @@ fn flattened(random: &mut Random, n: usize) -> (Vec<f64>, Vec<Model>) {
 /// The identity with one row under which marks that aren't small overflow: to
 /// either infinity, or to a NaN. Of the last row it is s, of the others what is
 /// divided by it.
-fn steep(random: &mut Random) -> Model {
-    let mut h = IDENTITY;
-    let row = random.pick(&[0, 3, 6, 6]);
-    (h[row], h[row + 1]) = (random.sign() * 1e308, random.sign() * 1e308);
+fn steep<F: Cases>(random: &mut Random) -> F::Model {
+    let mut h = identity::<F>();
+    let row = F::ROW * random.pick(&[0, 1, 2, 2]);
+    for k in row..row + 2 {
+        h.as_mut()[k] = random.sign() * 1e308;
+    }
     h
 }
 
 /// Marks of every size under models of every size: s of every kind, sums that
 /// overflow, distances that are infinite or a NaN.
-fn any_size(random: &mut Random, i: usize, n: usize) -> (Vec<f64>, Vec<Model>) {
-    let marks = sheet_cases::few_marks(random, i, n);
+fn any_size<F: Cases>(random: &mut Random, family: &F, i: usize, n: usize) -> Marked<F> {
+    let marks = F::few_marks(random, i, n);
     let mut pool = Vec::new();
     for _ in 0..random.from_to(1, 6) {
         let kind = random.below(40) as usize;
-        let (h, _) = sheet_cases::distance(random, kind);
-        if h.iter().all(|a| a.is_finite()) {
+        let (h, _) = family_cases::distance(random, family, kind);
+        if h.as_ref().iter().all(|a| a.is_finite()) {
             pool.push(h);
         }
     }
-    pool.push(steep(random));
-    pool.push(IDENTITY);
+    pool.push(steep::<F>(random));
+    pool.push(identity::<F>());
     (marks, pool)
 }
 
 /// Candidates that send every mark some 1e154 away, where the squares of a few
 /// distances sum to infinity.
-fn far(random: &mut Random, n: usize) -> (Vec<f64>, Vec<Model>) {
-    let (marks, mut pool) = whole(random, n);
+fn far<F: Cases>(random: &mut Random, family: &F, n: usize) -> Marked<F> {
+    let (marks, mut pool) = whole(random, family, n);
     pool.truncate(1);
     for _ in 0..random.from_to(1, 3) {
-        let away = 1.35e154 * random.unit();
-        pool.push(moved([random.sign() * away, 0.0]));
+        let away = random.sign() * 1.35e154 * random.unit();
+        pool.push(moved::<F>(identity::<F>(), [away, 0.0]));
     }
     (marks, pool)
 }
 
-/// A horizon through the sheet, at x = 0 or at y = 0: s is x or y, a power of
-/// two, its negative or a zero, so that distances are exact. Marks on either
-/// side have their pixels where the map has them, or a whole number beside; the
-/// candidates are the map, moved or not, and those with the signs changed.
-fn folded(random: &mut Random, n: usize) -> (Vec<f64>, Vec<Model>) {
-    let across = random.below(2) as usize;
+/// A horizon through the points, where one coordinate is 0: s is that
+/// coordinate, a power of two, its negative or a zero, so that distances are
+/// exact. Marks on either side have their pixels where the map has them, or a
+/// whole number beside; the candidates are the map, moved or not, and those
+/// with the signs changed.
+fn folded<F: Cases>(random: &mut Random, family: &F, n: usize) -> Marked<F> {
+    let across = random.below(F::ROW as u64 - 1) as usize;
+    let mut map = identity::<F>();
+    let last_row = 2 * F::ROW;
+    map.as_mut()[last_row + across] = 1.0;
+    map.as_mut()[F::SIZE - 1] = random.pick(&[0.0, 0.0, -0.0]);
     let mut marks = Vec::new();
     for _ in 0..n {
-        let mut at = [0; 2].map(|_| random.from_to(-20, 20) as f64);
-        at[across] = random.pick(&[0.0, -0.0, 1.0, 2.0, 4.0, -1.0, -2.0, 0.5, 8.0]);
-        let [u, v] = match at[across] {
-            0.0 => [7.0, 7.0],
-            s => at.map(|number| number / s),
-        };
-        let [right, down] = random.pick(&EXACT);
-        marks.extend([at[0], at[1], u + right, v + down]);
+        let mut point = F::Mark::from_fn(|_| random.from_to(-20, 20) as f64);
+        let s = random.pick(&[0.0, -0.0, 1.0, 2.0, 4.0, -1.0, -2.0, 0.5, 8.0]);
+        point.as_mut()[across] = s;
+        let mark = seen(family, &map, point, random.pick(&EXACT));
+        marks.extend_from_slice(mark.as_ref());
     }
     let pool = (0..random.from_to(2, 6)).map(|_| {
-        let mut h = IDENTITY;
-        let [right, down] = random.pick(&EXACT);
-        (h[6 + across], h[8]) = (1.0, random.pick(&[0.0, 0.0, -0.0]));
-        (h[across], h[3 + across]) = (h[across] + right, h[3 + across] + down);
+        let mut h = map;
+        let off = random.pick(&EXACT);
+        for (row, by) in off.into_iter().enumerate() {
+            h.as_mut()[row * F::ROW + across] += by;
+        }
         let sign = random.pick(&[1.0, 1.0, -1.0]);
-        rescaled(random, h.map(|a| a * sign))
+        rescaled(random, h.each(|a| a * sign))
     });
     (marks, pool.collect())
 }
 
-fn sheet(random: &mut Random, i: usize, n: usize) -> (Vec<f64>, Vec<Model>) {
+fn marked<F: Cases>(random: &mut Random, family: &F, i: usize, n: usize) -> Marked<F> {
     match i % 9 {
-        0..=2 => whole(random, n),
-        3..=5 => flattened(random, n),
-        6 => any_size(random, i / 9, n),
-        7 => far(random, n),
-        _ => folded(random, n),
+        0..=2 => whole(random, family, n),
+        3..=5 => flattened(random, family, n),
+        6 => any_size(random, family, i / 9, n),
+        7 => far(random, family, n),
+        _ => folded(random, family, n),
     }
 }
 
@@ -248,12 +291,12 @@ fn sheet(random: &mut Random, i: usize, n: usize) -> (Vec<f64>, Vec<Model>) {
 
 /// A threshold: one that distances equal, one at or next to a distance that
 /// occurs by the ratio, one of any size.
-fn thresh(random: &mut Random, marks: &[f64], pool: &[Model], ratio: f64) -> f64 {
+fn thresh<F: Cases>(random: &mut Random, family: &F, (marks, pool): &Marked<F>, ratio: f64) -> f64 {
     match random.below(10) {
         0..=3 => random.pick(&[1.0, 2.0, 3.0, 5.0, 13.0, 17.0]),
         4 | 5 => {
-            let mark = random.pick(marks.as_chunks::<4>().0);
-            let d = distance(&random.pick(pool), &mark, ratio);
+            let mark = random.pick(F::Mark::chunks(marks).0);
+            let d = family.distance(&random.pick(pool), &mark, ratio);
             let d = step(d, random.pick(&[0, 0, -1, 1]));
             if d > 0.0 && d.is_finite() { d } else { 1.0 }
         }
@@ -284,12 +327,12 @@ fn min_inliers(random: &mut Random, n: usize) -> u32 {
     }
 }
 
-fn options(random: &mut Random, marks: &[f64], pool: &[Model]) -> Options {
-    let n = marks.len() / 4;
+fn options<F: Cases>(random: &mut Random, family: &F, marked: &Marked<F>) -> Options {
+    let n = marked.0.len() / F::WIDTH;
     let most = if n > 100 { 8 } else { 40 };
     let ratio = ratio_cases::accepted(random);
     Options {
-        thresh: thresh(random, marks, pool, ratio),
+        thresh: thresh(random, family, marked, ratio),
         confidence: confidence(random),
         max_iters: random.from_to(1, most) as u32,
         min_inliers: min_inliers(random, n),
@@ -302,7 +345,7 @@ fn options(random: &mut Random, marks: &[f64], pool: &[Model]) -> Options {
 
 /// No fit, a fit, or a fit and a refit, each one of the candidates: the same
 /// one comes up often.
-fn trial(random: &mut Random, pool: &[Model]) -> Trial {
+fn trial<M: Numbers>(random: &mut Random, pool: &[M]) -> Trial<M> {
     match random.below(6) {
         0 => Trial::default(),
         1..=3 => Trial {
@@ -316,35 +359,39 @@ fn trial(random: &mut Random, pool: &[Model]) -> Trial {
     }
 }
 
-/// How many marks the i-th run has: 4 to 12, and now and then up to 2,000.
-fn marks_count(random: &mut Random, i: usize) -> usize {
+/// How many marks the i-th run has: some up to 12, and now and then up to the
+/// most.
+fn marks_count<F: Cases>(random: &mut Random, i: usize) -> usize {
     match i % 128 {
-        0 => 2000,
-        64 => random.from_to(13, 2000) as usize,
-        _ => random.from_to(4, 12) as usize,
+        0 => F::MOST,
+        64 => random.from_to(13, F::MOST as i64) as usize,
+        _ => random.from_to(F::FEWEST as i64, 12) as usize,
     }
 }
 
 /// The i-th run in the reference's domain: the stop list is the Rust's own,
 /// and there is a trial for each iteration that it may make.
-pub fn reference(random: &mut Random, i: usize) -> Case {
-    let n = marks_count(random, i);
+pub fn reference<F: Cases>(random: &mut Random, i: usize) -> Case<F> {
+    let n = marks_count::<F>(random, i);
     let kind = random.below(54) as usize;
-    let (marks, pool) = sheet(random, kind, n);
-    let options = options(random, &marks, &pool);
+    let family = F::accepted(random);
+    let marked = marked(random, &family, kind, n);
+    let options = options(random, &family, &marked);
+    let (marks, pool) = marked;
     let trials = (0..options.max_iters).map(|_| trial(random, &pool));
     let trials = trials.collect();
     Case {
+        family,
         options,
-        stops: stop_list(options.confidence, n),
+        stops: stop_list::<F>(options.confidence, n),
         marks,
         trials,
     }
 }
 
 /// The i-th run with any stop list, and with trials that may run out.
-pub fn any_stops(random: &mut Random, i: usize) -> Case {
-    let mut case = reference(random, i);
+pub fn any_stops<F: Cases>(random: &mut Random, i: usize) -> Case<F> {
+    let mut case = reference::<F>(random, i);
     for stop in &mut case.stops {
         *stop = match random.below(4) {
             0 => random.pick(&[0, 1, u32::MAX, 100_000]),
@@ -419,11 +466,11 @@ fn bad_number(random: &mut Random) -> f64 {
 }
 
 /// Marks that are refused: their length, a number, or too few of them.
-pub fn damage_marks(random: &mut Random, marks: &mut Vec<f64>) {
+pub fn damage_marks<F: Cases>(random: &mut Random, marks: &mut Vec<f64>) {
     match random.below(5) {
         0 => relength(random, marks, 1.5, 7),
-        1 => marks.truncate(4 * random.below(4) as usize),
-        2 => marks.resize(8000 + random.pick(&[1, 4, 40]), 2.5),
+        1 => marks.truncate(F::WIDTH * random.below(F::FEWEST as u64) as usize),
+        2 => marks.resize(8000 + random.pick(&[1, F::WIDTH, 40]), 2.5),
         _ if marks.is_empty() => marks.push(0.0),
         _ => {
             let place = random.below(marks.len() as u64) as usize;
@@ -439,44 +486,48 @@ fn damage_mark_bytes(random: &mut Random, bytes: &mut Vec<u8>) {
     if random.below(4) == 0 {
         return relength(random, bytes, 0, 40);
     }
-    damage_marks(random, &mut marks);
+    damage_marks::<Sheet>(random, &mut marks);
     *bytes = marks.iter().flat_map(|x| x.to_le_bytes()).collect();
 }
 
 /// A trial record that is refused.
-pub fn damage_trial(random: &mut Random, record: &mut [u8]) {
+pub fn damage_trial<F: Cases>(random: &mut Random, record: &mut [u8]) {
     let byte = 1 + random.below(255) as u8;
     let nan = f64::from_bits(random.pick(&NANS));
     let bad = random.pick(&[nan, f64::INFINITY, f64::NEG_INFINITY]);
-    let place = 8 * random.below(9) as usize;
+    let place = 8 * random.below(F::SIZE as u64) as usize;
     match random.below(8) {
         0 => record[0] = byte.max(2),
         1 => record[1] = byte.max(2),
         2 => record[2 + random.below(6) as usize] = byte,
         // A number that isn't finite, marked or not.
         3 => put(record, FIT_AT + place, &bad.to_le_bytes()),
-        4 => put(record, REFIT_AT + place, &bad.to_le_bytes()),
+        4 => put(record, F::REFIT_AT + place, &bad.to_le_bytes()),
         // A refit without a fit.
         5 => {
             record[..FIT_AT].copy_from_slice(&[0, 1, 0, 0, 0, 0, 0, 0]);
-            record[FIT_AT..REFIT_AT].fill(0);
+            record[FIT_AT..F::REFIT_AT].fill(0);
         }
         // Numbers that aren't marked: minus zero, and one byte anywhere.
         6 => {
             record[1] = 0;
-            put(record, REFIT_AT + place, &(-0.0f64).to_le_bytes());
+            put(record, F::REFIT_AT + place, &(-0.0f64).to_le_bytes());
         }
         _ => {
             record[..2].fill(0);
-            record[FIT_AT + random.below(144) as usize] = byte;
+            let place = random.below(16 * F::SIZE as u64) as usize;
+            record[FIT_AT + place] = byte;
         }
     }
 }
 
-/// A record of another length than a trial's.
-pub fn other_length(random: &mut Random, record: &mut Vec<u8>) {
-    let len = random.pick(&[0, 1, 8, 80, 151, 153, 304]);
-    record.resize(len, 0);
+/// A record of another length than a trial's, the sheet's or a form's too.
+pub fn other_length<F: Cases>(random: &mut Random, record: &mut Vec<u8>) {
+    let len = F::TRIAL_BYTES;
+    let lengths = [0, 1, 8, F::REFIT_AT, len - 1, len + 1, 2 * len, 152, 200];
+    while record.len() == len {
+        record.resize(random.pick(&lengths), 0);
+    }
 }
 
 /// Damages a trial anywhere, the length of the list, or all from some trial on.
@@ -487,7 +538,7 @@ fn damage_trials(random: &mut Random, trials: &mut Vec<u8>) {
         0 => relength(random, trials, 0, 151),
         1 if from > 0 => {
             let record = &mut trials[from - TRIAL_BYTES..from];
-            damage_trial(random, record);
+            damage_trial::<Sheet>(random, record);
         }
         2 => trials[from..].fill(0xff),
         _ => {
@@ -512,7 +563,7 @@ fn damage(random: &mut Random, bytes: &mut Bytes) {
 /// damaged in one place, some in two or three, so that the order of the
 /// refusals shows.
 pub fn damaged(random: &mut Random, i: usize) -> Bytes {
-    let case = any_stops(random, i);
+    let case: Case = any_stops(random, i);
     let short = case.short_bytes().filter(|_| random.below(2) == 0);
     let mut bytes = short.unwrap_or_else(|| case.bytes());
     for _ in 0..random.pick(&[0, 1, 1, 1, 2, 3]) {
@@ -544,19 +595,21 @@ pub fn rooms(random: &mut Random, marks: &[u8]) -> [usize; 2] {
 
 /// Words of a state that no run gives: for a list of n marks, and built on
 /// this run's state. Now and then it is one only for its threshold, under which
-/// every mark lies or none, and now and then only for its ratio.
-pub fn hand_made(random: &mut Random, words: &mut Words, pool: &[Model]) {
+/// every mark lies or none, now and then only for its ratio, and now and then
+/// only for what the marks are measured by.
+pub fn hand_made<F: Cases>(random: &mut Random, words: &mut Words, pool: &[F::Model]) {
     match random.below(8) {
         0 => {
             let nan = random.pick(&NANS);
             return words[0] = random.pick(&[f64::INFINITY.to_bits(), nan]);
         }
-        1 => return words[RATIO_AT] = ratio_cases::any(random).to_bits(),
+        1 => return words[F::RATIO_AT] = ratio_cases::any(random).to_bits(),
+        2 if F::NUMBERS > 0 => return put_any::<F>(random, words),
         _ => {}
     }
     for _ in 0..random.from_to(1, 4) {
         let place = match random.below(16) {
-            15 => RATIO_AT,
+            15 => F::RATIO_AT,
             place => place as usize,
         };
         words[place] = match place {
@@ -571,16 +624,29 @@ pub fn hand_made(random: &mut Random, words: &mut Words, pool: &[Model]) {
             }
             6..=10 => hand_made_count(random),
             12 | 13 => random.pick(&[0, 1, 3, 4, 5, 2000, (1 << 32) - 1, (5 << 32) + 4]),
-            RATIO_AT => ratio_cases::any(random).to_bits(),
-            _ => hand_made_double(random),
+            14 => hand_made_double(random),
+            _ => ratio_cases::any(random).to_bits(),
         };
+    }
+    if random.below(4) == 0 {
+        put_any::<F>(random, words);
     }
     if words[11] == 1 {
         let model = random.pick(pool);
-        crate::records::put(words, 15, &model);
+        records::put(words, MODEL_AT, model.as_ref());
         if random.below(6) == 0 {
-            words[15 + random.below(9) as usize] = hand_made_double(random);
+            let place = random.below(F::SIZE as u64) as usize;
+            words[MODEL_AT + place] = hand_made_double(random);
         }
+    }
+}
+
+/// Measured by anything at all. Its NaNs are of any pattern.
+fn put_any<F: Cases>(random: &mut Random, words: &mut Words) {
+    let family = F::any(random);
+    let places = words[F::RATIO_AT + 1..].iter_mut();
+    for (place, number) in places.zip(family.numbers()) {
+        *place = number.to_bits();
     }
 }
 

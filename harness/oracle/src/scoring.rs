@@ -1,17 +1,6 @@
 //! Scoring a list of squared distances, in plain Rust: the root of each, the
 //! comparison with the threshold, the sum in index order from 0.
 
-use crate::sheet::squared_apart;
-use crate::{Mark, Model, beyond};
-
-/// The square that the distance is the root of.
-pub fn squared(h: &Model, mark: &Mark, ratio: f64) -> f64 {
-    match beyond(h, mark) {
-        true => f64::INFINITY,
-        false => squared_apart(h, mark, ratio),
-    }
-}
-
 /// The places of the squares whose root is at most the threshold.
 pub fn places(thresh: f64, squares: &[f64]) -> Vec<u32> {
     let all = (0..).zip(squares);

@@ -1,9 +1,10 @@
-//! Lists of squared distances with a threshold, and sheets to measure.
+//! Lists of squared distances with a threshold, and marks of any family to
+//! measure.
 
-use crate::Model;
 use crate::cases::{NANS, Random, step};
+use crate::family::Numbers;
+use crate::family_cases::{self, Cases};
 use crate::scoring::Limits;
-use crate::sheet_cases;
 
 /// Numbers that no distance's threshold or square usually is.
 fn special(random: &mut Random) -> f64 {
@@ -140,40 +141,49 @@ pub fn count(random: &mut Random, right: usize) -> u32 {
     }
 }
 
-// Sheets to measure.
+// Marks to measure.
 
 /// The i-th list of marks, whose numbers are whole where a horizon runs
-/// through them, and a model; the list may end in a part of a mark.
-pub fn sheet(random: &mut Random, i: usize) -> (Model, Vec<f64>) {
+/// through them, a model, and what they are measured by; the list may end in a
+/// part of a mark.
+pub fn measured<F: Cases>(random: &mut Random, i: usize) -> (F, F::Model, Vec<f64>) {
     let n = match i % 256 {
-        0 => 2000,
-        128 => random.from_to(13, 1999) as usize,
+        0 => F::MOST,
+        128 => random.from_to(13, F::MOST as i64 - 1) as usize,
         _ => random.below(13) as usize,
     };
+    let numbers = F::WIDTH * n;
     let mut marks = match i % 4 {
-        0 => (0..4 * n).map(|_| random.from_to(-4, 4) as f64).collect(),
-        1 => (0..4 * n).map(|_| pattern(random)).collect(),
-        _ => sheet_cases::few_marks(random, i / 4, n),
+        0 => (0..numbers).map(|_| random.from_to(-4, 4) as f64).collect(),
+        1 => (0..numbers).map(|_| pattern(random)).collect(),
+        _ => F::few_marks(random, i / 4, n),
     };
     if random.below(8) == 0 {
-        marks.extend([1.5; 3].iter().take(random.from_to(1, 3) as usize));
+        let part = random.from_to(1, F::WIDTH as i64 - 1) as usize;
+        marks.resize(numbers + part, 1.5);
     }
+    let family = match i % 4 {
+        1 => F::any(random),
+        _ => F::accepted(random),
+    };
     let model = match i % 4 {
-        0 => horizon(random),
-        1 => [0; 9].map(|_| pattern(random)),
+        0 => horizon::<F>(random),
+        1 => F::Model::from_fn(|_| pattern(random)),
         _ => {
             let kind = random.below(40) as usize;
-            sheet_cases::distance(random, kind).0
+            family_cases::distance(random, &family, kind).0
         }
     };
-    (model, marks)
+    (family, model, marks)
 }
 
 /// A model whose s is whole at whole numbers: 0, -0, negative or positive.
-fn horizon(random: &mut Random) -> Model {
-    let mut h = [0; 9].map(|_| random.from_to(-3, 3) as f64);
+fn horizon<F: Cases>(random: &mut Random) -> F::Model {
+    let mut h = F::Model::from_fn(|_| random.from_to(-3, 3) as f64);
     if random.below(4) == 0 {
-        (h[6], h[7], h[8]) = (random.pick(&[0.0, -0.0]), -0.0, -0.0);
+        let last_row = &mut h.as_mut()[2 * F::ROW..];
+        last_row.fill(-0.0);
+        last_row[0] = random.pick(&[0.0, -0.0]);
     }
     h
 }

@@ -1,6 +1,7 @@
-//! Marks: normalising, collinear, the rows, and 01's distance, with order 2's
-//! beyond and order 3's row ratio.
+//! Sheets: normalising, collinear and the rows by the originals, and 01's
+//! distance, with order 2's beyond and order 3's row ratio.
 
+use crate::family::{Family, Measure};
 use vision_calibration_core::{Pt2, linalg};
 use vision_geometry::{GeometryError, homography};
 
@@ -39,46 +40,52 @@ pub fn dlt_rows(marks: &[Mark]) -> Result<Vec<f64>, GeometryError> {
     }
 }
 
-/// What 02's order 2 has a distance say of a mark.
+/// A sheet. Nothing is asked of it.
 #[derive(Clone, Copy, Debug, PartialEq)]
-pub enum Measure {
-    Beyond,
-    Distance(f64),
+pub struct Sheet;
+
+impl Family for Sheet {
+    type Mark = Mark;
+    type Model = Model;
+    const FEWEST: usize = 4;
+    const NUMBERS: usize = 0;
+
+    fn numbers(&self) -> &[f64] {
+        &[]
+    }
+
+    fn of_numbers(_: &[f64]) -> Self {
+        Self
+    }
+
+    fn tested(&self) -> Result<(), u32> {
+        Ok(())
+    }
+
+    /// 01's s.
+    fn divisor(h: &Model, &[x, y, ..]: &Mark) -> f64 {
+        (h[6] * x + h[7] * y) + h[8]
+    }
+
+    fn mapped(&self, h: &Model, mark: &Mark) -> [f64; 2] {
+        let (s, &[x, y, ..]) = (Self::divisor(h, mark), mark);
+        let across = ((h[0] * x + h[1] * y) + h[2]) / s;
+        let down = ((h[3] * x + h[4] * y) + h[5]) / s;
+        [across, down]
+    }
 }
 
-/// 01's s.
-fn divisor(h: &Model, &[x, y, ..]: &Mark) -> f64 {
-    (h[6] * x + h[7] * y) + h[8]
-}
-
-/// Whether the mark is beyond the horizon under the model: s isn't above 0.
+/// Whether a sheet's mark is beyond the horizon under the model.
 pub fn beyond(h: &Model, mark: &Mark) -> bool {
-    // Not `s <= 0.0`: with a NaN for s it is beyond too.
-    !(divisor(h, mark) > 0.0)
+    Sheet::beyond(h, mark)
 }
 
-/// 01's du·du + dv·dv, for a mark that isn't beyond, with the difference along
-/// v multiplied by the ratio before squaring, as 02's order 3 has it.
-pub(crate) fn squared_apart(h: &Model, mark: &Mark, ratio: f64) -> f64 {
-    let (s, &[x, y, u, v]) = (divisor(h, mark), mark);
-    let du = ((h[0] * x + h[1] * y) + h[2]) / s - u;
-    let dv = (((h[3] * x + h[4] * y) + h[5]) / s - v) * ratio;
-    du * du + dv * dv
-}
-
-/// The distance by a row ratio, the residual of the replayed estimator:
-/// infinite where the mark is beyond. 01's own is that by 1.
+/// A sheet's distance by a row ratio. 01's own is that by 1.
 pub fn distance(h: &Model, mark: &Mark, ratio: f64) -> f64 {
-    match beyond(h, mark) {
-        true => f64::INFINITY,
-        false => squared_apart(h, mark, ratio).sqrt(),
-    }
+    Sheet.distance(h, mark, ratio)
 }
 
-/// The same, with beyond told from a number, which may be infinite too.
+/// The same, with beyond told from a number.
 pub fn measure(h: &Model, mark: &Mark, ratio: f64) -> Measure {
-    match beyond(h, mark) {
-        true => Measure::Beyond,
-        false => Measure::Distance(distance(h, mark, ratio)),
-    }
+    Sheet.measure(h, mark, ratio)
 }

@@ -1,7 +1,7 @@
-//! Mark lists and models to compare on: traps by hand, limits by rule, and
-//! random ones.
+//! Sheets to compare on: lists of marks and models by hand, limits by rule, and
+//! random lists.
 
-use crate::cases::{NANS, Random, power_of_two, step};
+use crate::cases::{Random, power_of_two, step};
 use crate::ratio_cases::{LEAST, MOST};
 use crate::{Mark, Model, Point};
 
@@ -173,19 +173,6 @@ pub fn all_traps() -> Vec<Vec<f64>> {
     [mark_traps(), refused.collect(), long_traps()].concat()
 }
 
-/// The i-th random list: few marks, and every 256th time up to 2,000.
-pub fn marks(random: &mut Random, i: usize) -> Vec<f64> {
-    let n = match i % 256 {
-        0 => random.from_to(13, 2000),
-        _ => random.from_to(0, 12),
-    };
-    let mut list = few_marks(random, i, n as usize);
-    if random.below(8) == 0 {
-        damage(random, &mut list);
-    }
-    list
-}
-
 /// n marks of the i-th kind, not damaged.
 pub fn few_marks(random: &mut Random, i: usize, n: usize) -> Vec<f64> {
     let sheet = side(random, i, n);
@@ -198,33 +185,14 @@ pub fn few_marks(random: &mut Random, i: usize, n: usize) -> Vec<f64> {
     pair(&sheet, &side(random, pixel_kind, n))
 }
 
-/// Gives the list a number that isn't allowed, or a length, or both.
-fn damage(random: &mut Random, list: &mut Vec<f64>) {
-    let nan = f64::from_bits(random.pick(&NANS));
-    let over = random.sign() * random.pick(&[step(1e9, 1), 2e9, f64::MAX, f64::INFINITY]);
-    let way = random.below(4);
-    if way != 0 && !list.is_empty() {
-        let place = random.below(list.len() as u64) as usize;
-        list[place] = random.pick(&[nan, over, over]);
-    }
-    if way < 2 {
-        let more = random.from_to(1, 3);
-        let len = match random.below(64) {
-            0 => 8000 + more * random.pick(&[1, 4]),
-            _ => list.len() as i64 + more,
-        };
-        list.resize(len as usize, 1.5);
-    }
-}
-
-const KINDS: usize = 11;
+pub(crate) const KINDS: usize = 11;
 
 fn points(n: usize, make: impl FnMut() -> Point) -> Vec<Point> {
     std::iter::repeat_with(make).take(n).collect()
 }
 
 /// n points of a kind.
-fn side(random: &mut Random, kind: usize, n: usize) -> Vec<Point> {
+pub(crate) fn side(random: &mut Random, kind: usize, n: usize) -> Vec<Point> {
     match kind % KINDS {
         0 => points(n, || [0; 2].map(|_| 2000.0 * random.unit() - 1000.0)),
         // Every size up to some 5e8.
@@ -457,92 +425,4 @@ pub fn ratio_traps() -> Vec<(Model, Mark, f64)> {
         (model([(3, 1e300), (4, -1e300)]), [1e9, 1e9, 3.0, 4.0], 2.0),
     ]);
     list
-}
-
-/// The i-th random model and mark.
-pub fn distance(random: &mut Random, i: usize) -> (Model, Mark) {
-    let mut mark = [0; 4].map(|_| mark_number(random, i));
-    let mut h = match i % 10 {
-        // About the identity.
-        0 => IDENTITY.map(|a| a + 1e-3 * (random.unit() - 0.5)),
-        // A homography, with the mark about where it should be.
-        1 | 2 => {
-            let h: Model = std::array::from_fn(|k| match k {
-                6 | 7 => 1e-3 * (random.unit() - 0.5),
-                8 => 0.5 + random.unit(),
-                _ => random.sign() * random.sized(1013, 1029),
-            });
-            mark = mark_near(random, &h, mark);
-            h
-        }
-        // s around zero.
-        3 => {
-            let mut h = [0; 9].map(|_| random.sign() * random.sized(1013, 1029));
-            h[8] = -step(h[6] * mark[0] + h[7] * mark[1], random.from_to(-2, 2));
-            h
-        }
-        // Zeros of both signs.
-        4 => [0; 9].map(|_| random.pick(&[0.0, -0.0, 0.0, -0.0, 1.0, -1.0, 5e-324])),
-        // Close to overflow, on one line of the model or on all.
-        5 => {
-            let lines = random.below(8);
-            std::array::from_fn(|k| match lines >> (k / 3) & 1 {
-                0 => random.sign() * random.sized(1020, 1030),
-                _ => random.sign() * random.sized(2010, 2046),
-            })
-        }
-        6 => [0; 9].map(|_| random.sign() * random.sized(0, 2046)),
-        // Subnormal, all or the last line alone.
-        7 => {
-            let from = random.pick(&[0, 6, 8]);
-            std::array::from_fn(|k| match k < from {
-                true => random.sign() * random.sized(1013, 1029),
-                false => random.sign() * random.sized(0, 0),
-            })
-        }
-        // s positive and of any size.
-        8 => {
-            let mut h = [0; 9].map(|_| random.sign() * random.sized(1000, 1040));
-            h[8] = random.sized(0, 2046);
-            h
-        }
-        _ => [0; 9].map(|_| random.from_to(-3, 3) as f64),
-    };
-    damage_distance(random, &mut h, &mut mark);
-    (h, mark)
-}
-
-/// Most often of some hundreds; now and then of any size, or 1e9.
-fn mark_number(random: &mut Random, i: usize) -> f64 {
-    match i / 10 % 4 {
-        0 => random.sign() * step(1e9, -random.from_to(0, 1)),
-        1 => random.sign() * random.sized(0, 1051),
-        2 => random.from_to(-3, 3) as f64,
-        _ => 1000.0 * random.unit() - 500.0,
-    }
-}
-
-/// The mark with its pixel near where the model has it, if that is allowed.
-fn mark_near(random: &mut Random, h: &Model, [x, y, u, v]: Mark) -> Mark {
-    let s = (h[6] * x + h[7] * y) + h[8];
-    let mut near = |top: f64, old: f64| match top / s + random.from_to(-1, 1) as f64 {
-        number if number.abs() <= 1e9 => number,
-        _ => old,
-    };
-    let u = near((h[0] * x + h[1] * y) + h[2], u);
-    let v = near((h[3] * x + h[4] * y) + h[5], v);
-    [x, y, u, v]
-}
-
-/// Sometimes gives the model, the mark or both a number that isn't allowed.
-fn damage_distance(random: &mut Random, h: &mut Model, mark: &mut Mark) {
-    let way = random.below(16);
-    let nan = f64::from_bits(random.pick(&NANS));
-    if way < 2 {
-        h[random.below(9) as usize] = random.pick(&[nan, f64::INFINITY, f64::NEG_INFINITY]);
-    }
-    if way == 1 || way == 2 {
-        let over = random.sign() * random.pick(&[step(1e9, 1), 2e9, f64::INFINITY]);
-        mark[random.below(4) as usize] = random.pick(&[nan, over, over]);
-    }
 }

@@ -21,13 +21,14 @@
 
 use crate::cases::Random;
 use crate::entries;
+use crate::family_cases;
 use crate::ratio_cases;
 use crate::records::{bits, put};
 use crate::sheet_cases::{
     self, SQUARE, both, distance_traps, line_traps, ratio_traps, refused_traps, spread_traps,
     usual_traps,
 };
-use crate::{Mark, Measure, Model};
+use crate::{Mark, Measure, Model, Sheet};
 
 pub type Record = [u64; 128];
 
@@ -184,12 +185,12 @@ fn rows(random: &mut Random) -> Vec<Record> {
 fn distances(random: &mut Random) -> Vec<Record> {
     let mut pairs = distance_traps();
     for i in pairs.len()..EACH {
-        pairs.push(sheet_cases::distance(random, i));
+        pairs.push(family_cases::distance(random, &Sheet, i));
     }
     let mut list: Vec<_> = pairs.into_iter().map(|(h, mark)| (h, mark, 1.0)).collect();
     list.extend(ratio_traps());
     for i in 0..DIFFERENT {
-        let (h, mark) = sheet_cases::distance(random, i);
+        let (h, mark) = family_cases::distance(random, &Sheet, i);
         list.push((h, mark, ratio_cases::accepted(random)));
     }
     let records = list.iter().map(|(h, mark, by)| of_distance(h, mark, *by));
@@ -244,7 +245,7 @@ fn of_rows(marks: &[f64], room: usize) -> Record {
 
 fn of_distance(h: &Model, mark: &Mark, ratio: f64) -> Record {
     let mut record = record(4, 0, &[h.as_slice(), mark, &[ratio]].concat());
-    match entries::distance(h, mark, ratio) {
+    match entries::distance(&Sheet, h, mark, ratio) {
         Ok(Measure::Distance(number)) => record[ANSWER] = bits(number),
         Ok(Measure::Beyond) => record[BEYOND] = 1,
         Err(number) => record[4] = number.into(),

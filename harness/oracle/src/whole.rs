@@ -47,11 +47,7 @@ pub fn open(inputs: &Inputs) -> Result<Opened, u32> {
 /// Reads trials to the bound, the end or the first refused. A cut-off last
 /// trial is a record of a wrong length.
 pub fn read(opened: &Opened, trials: &[u8]) -> (Book, Vec<Outcome>) {
-    let State {
-        options,
-        n,
-        mut book,
-    } = opened.state;
+    let (fed, mut book) = (opened.state.fed(), opened.state.book);
     let mut outcomes = Vec::new();
     for record in trials.chunks(TRIAL_BYTES) {
         if book.ended() {
@@ -62,7 +58,7 @@ pub fn read(opened: &Opened, trials: &[u8]) -> (Book, Vec<Outcome>) {
             marks: &opened.marks,
             stops: &opened.stops,
         };
-        outcomes.push(book.call(&options, n, &call).outcome);
+        outcomes.push(book.call(&fed, &call).outcome);
         if outcomes.last().is_some_and(|last| last.number() != 0) {
             break;
         }

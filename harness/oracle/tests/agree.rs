@@ -1,11 +1,12 @@
 //! The book, written from 01 alone, gives what `ransac_fit` gives over the
-//! reference's whole domain.
+//! reference's whole domain, for sheets and for forms.
 
 use oracle::book::{Best, Book, Call, Options, Outcome, State, trial_record};
 use oracle::cases::Random;
+use oracle::family_cases::Cases;
 use oracle::pick_cases::{Case, reference, runs};
 use oracle::ratio_cases::{LEAST, MOST};
-use oracle::{Run, Trial, Winner, distance, stop_list};
+use oracle::{Form, Numbers, Run, Sheet, Trial, Winner, stop_list};
 
 /// What came up, so that a run of many shows that the domain was reached.
 #[derive(Debug, Default)]
@@ -66,7 +67,14 @@ impl Tally {
     }
 
     /// Counts one trial, by the book before and after it.
-    fn step(&mut self, case: &Case, trial: &Trial, before: &Book, after: &Book, outcome: &Outcome) {
+    fn step<F: Cases>(
+        &mut self,
+        case: &Case<F>,
+        trial: &Trial<F::Model>,
+        before: &Book<F::Model>,
+        after: &Book<F::Model>,
+        outcome: &Outcome,
+    ) {
         self.trials += 1;
         self.bound_rose += usize::from(after.bound > before.bound);
         match outcome {
@@ -75,13 +83,13 @@ impl Tally {
             Outcome::Few(_) => self.few += 1,
             Outcome::Held(count, rms) => {
                 self.held += 1;
-                let same = |best: Best| best.count == *count && best.rms == *rms;
+                let same = |best: Best<_>| best.count == *count && best.rms == *rms;
                 self.equal += usize::from(before.winner.is_some_and(same));
             }
             Outcome::Won(count, rms) => {
                 self.count_0 += usize::from(*count == 0);
                 self.infinite_rms += usize::from(*count > 0 && rms.is_infinite());
-                let closer = |best: Best| best.count == *count;
+                let closer = |best: Best<_>| best.count == *count;
                 self.closer += usize::from(before.winner.is_some_and(closer));
                 let model = after.winner.expect("it won").model;
                 self.refit_stands += usize::from(Some(model) != trial.fit);
@@ -89,7 +97,7 @@ impl Tally {
         }
         if let Some(fit) = &trial.fit {
             let Options { thresh, ratio, .. } = case.options;
-            let met = |mark| distance(fit, mark, ratio) == thresh;
+            let met = |mark| case.family.distance(fit, mark, ratio) == thresh;
             let met = case.mark_list().iter().any(met);
             self.at_thresh += usize::from(met && ratio == 1.0);
             self.at_thresh_by_ratio += usize::from(met && ratio != 1.0);
@@ -97,7 +105,7 @@ impl Tally {
     }
 
     /// Counts a run's ratio, and whether the original gives something else by 1.
-    fn ratio(&mut self, case: &Case, theirs: &Run) {
+    fn ratio<F: Cases>(&mut self, case: &Case<F>, theirs: &Run<F::Model>) {
         let ratio = case.options.ratio;
         self.one += usize::from(ratio == 1.0);
         self.least += usize::from(ratio == LEAST);
@@ -107,7 +115,7 @@ impl Tally {
         let mut by_one = case.clone();
         by_one.options.ratio = 1.0;
         let other = by_one.ransac_fit();
-        let told = |run: &Run| {
+        let told = |run: &Run<F::Model>| {
             let winner = run.winner.as_ref();
             winner.map(|best| (best.number, best.inliers.len(), best.rms.to_bits()))
         };
@@ -118,9 +126,8 @@ impl Tally {
 }
 
 /// The state after the whole list, trial by trial.
-fn booked(case: &Case, tally: &mut Tally) -> State {
-    let opening = State::open(case.options, &case.marks, &case.stops);
-    let mut state = opening.unwrap_or_else(|number| panic!("refused {number}: {case:?}"));
+fn booked<F: Cases>(case: &Case<F>, tally: &mut Tally) -> State<F> {
+    let mut state = case.open();
     for trial in &case.trials {
         if state.book.ended() {
             break;
@@ -137,16 +144,19 @@ fn booked(case: &Case, tally: &mut Tally) -> State {
 }
 
 /// The book's winner is the original's, with the same indices.
-fn same_winner(case: &Case, state: &State, theirs: Winner) {
+fn same_winner<F: Cases>(case: &Case<F>, state: &State<F>, theirs: Winner<F::Model>) {
     let ours = state.book.winner.expect("a winner, as theirs");
     let numbers = (ours.number as usize, ours.count as usize);
     assert_eq!(numbers, (theirs.number, theirs.inliers.len()), "{case:?}");
     assert_eq!(ours.rms.to_bits(), theirs.rms.to_bits(), "{case:?}");
-    assert_eq!(
-        ours.model.map(f64::to_bits),
-        theirs.model.map(f64::to_bits),
-        "{case:?}"
-    );
+    let bits = |model: F::Model| {
+        model
+            .as_ref()
+            .iter()
+            .map(|h| h.to_bits())
+            .collect::<Vec<_>>()
+    };
+    assert_eq!(bits(ours.model), bits(theirs.model), "{case:?}");
     let indices = state.winner_indices(&case.marks, case.n());
     let indices = indices.expect("a winner and room");
     assert!(
@@ -159,7 +169,7 @@ fn same_winner(case: &Case, state: &State, theirs: Winner) {
     );
 }
 
-fn agree(case: &Case, tally: &mut Tally) {
+fn agree<F: Cases>(case: &Case<F>, tally: &mut Tally) {
     let theirs = case.ransac_fit();
     let state = booked(case, tally);
     let book = &state.book;
@@ -178,13 +188,13 @@ fn agree(case: &Case, tally: &mut Tally) {
     }
 }
 
-#[test]
-fn the_book_gives_what_ransac_fit_gives() {
-    let random = &mut Random::new(20);
+/// The book gives what `ransac_fit` gives.
+fn runs_agree<F: Cases>(seed: u64) {
+    let random = &mut Random::new(seed);
     let mut tally = Tally::default();
     let count = runs(6_000, 100);
     for i in 0..count {
-        agree(&reference(random, i), &mut tally);
+        agree(&reference::<F>(random, i), &mut tally);
     }
     println!("{tally:?}");
     if count >= 2_000 {
@@ -192,11 +202,21 @@ fn the_book_gives_what_ransac_fit_gives() {
     }
 }
 
-/// The most iterations there may be, all of them made.
 #[test]
-fn the_longest_run() {
+fn runs_of_sheets_agree() {
+    runs_agree::<Sheet>(20);
+}
+
+#[test]
+fn runs_of_forms_agree() {
+    runs_agree::<Form>(23);
+}
+
+/// The most iterations there may be, all of them made; under the last one's
+/// model every mark is beyond.
+fn the_longest_run<F: Cases>() {
     let random = &mut Random::new(21);
-    let mut case = reference(random, 1);
+    let mut case = reference::<F>(random, 1);
     let options = Options {
         thresh: 1e-300,
         confidence: 0.99,
@@ -206,13 +226,23 @@ fn the_longest_run() {
         ratio: 0.5,
     };
     case.options = options;
-    case.marks.truncate(16);
-    case.stops = stop_list(options.confidence, 4);
+    case.marks.truncate(F::WIDTH * F::FEWEST);
+    case.stops = stop_list::<F>(options.confidence, F::FEWEST);
     case.trials = vec![Trial::default(); 100_000];
-    case.trials[99_999].fit = Some([-1.0; 9]);
+    case.trials[99_999].fit = Some(F::Model::from_fn(|_| 0.0));
     let mut tally = Tally::default();
     agree(&case, &mut tally);
     assert_eq!((tally.trials, tally.few), (100_000, 1));
+}
+
+#[test]
+fn the_longest_run_of_a_sheet() {
+    the_longest_run::<Sheet>();
+}
+
+#[test]
+fn the_longest_run_of_a_form() {
+    the_longest_run::<Form>();
 }
 
 /// The original accepts the options that 01 accepts, apart from the ceiling on
@@ -227,7 +257,7 @@ fn options_are_validated_alike() {
             1 => random.unit(),
             _ => random.pattern(),
         };
-        let mut case = reference(&mut Random::new(1), 1);
+        let mut case: Case = reference(&mut Random::new(1), 1);
         (case.options.thresh, case.options.confidence) = (double(), double());
         case.options.max_iters = random.pick(&[0, 1, 1000, 100_000, 100_000]);
         let ours = case.options.tested().is_ok();

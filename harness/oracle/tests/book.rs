@@ -5,7 +5,7 @@ use oracle::book::{Answer, Best, Book, Call, Options, State, trial_of_record, tr
 use oracle::cases::step;
 use oracle::example::{self, BEHIND, I, SQUARE, T};
 use oracle::whole::{printed, run};
-use oracle::{Model, Trial};
+use oracle::{Model, Sheet, Trial};
 
 const STOPS: [u32; 6] = [9, 9, 9, 9, 3, 9];
 
@@ -26,10 +26,10 @@ fn by(ratio: f64, options: Options) -> Options {
 }
 
 fn open(options: Options) -> State {
-    State::open(options, &SQUARE, &STOPS).expect("an accepted opening")
+    State::open(Sheet, options, &SQUARE, &STOPS).expect("an accepted opening")
 }
 
-fn fit(model: Model) -> [u8; 152] {
+fn fit(model: Model) -> Vec<u8> {
     trial_record(&Trial {
         fit: Some(model),
         refit: None,
@@ -236,7 +236,7 @@ fn the_bound_falls_and_rises() {
 #[test]
 fn the_third_trial_at_two_is_refused() {
     let mut state = open(options(2.0, 2, 4, false));
-    let empty = trial_record(&Trial::default());
+    let empty = trial_record(&Trial::<Model>::default());
     for expected in [0, 0, 10] {
         assert_eq!(number_of(&mut state, &empty), expected);
     }
@@ -275,7 +275,7 @@ fn openings_refuse_in_their_order() {
         (with(f64::MAX, 5e-324, 1), &SQUARE, &STOPS, 0),
     ];
     for (options, marks, stops, number) in cases {
-        let answer = State::open(options, marks, stops).err().unwrap_or(0);
+        let answer = State::open(Sheet, options, marks, stops).err().unwrap_or(0);
         assert_eq!(answer, number, "{options:?}");
         let record = options.record();
         let answer = State::open_record(&record, marks, stops).err().unwrap_or(0);
@@ -386,10 +386,10 @@ fn trials_refuse_in_their_order() {
 /// 01's kinds of a malformed record, one by one.
 #[test]
 fn malformed_trials() {
-    let refused = |change: &dyn Fn(&mut [u8; 152])| {
+    let refused = |change: &dyn Fn(&mut [u8])| {
         let mut record = fit(I);
         change(&mut record);
-        trial_of_record(&record).is_err()
+        trial_of_record::<Sheet>(&record).is_err()
     };
     assert!(!refused(&|_| ()));
     assert!(refused(&|r| r[0] = 2));
@@ -422,11 +422,14 @@ fn records_come_back() {
         fit: Some(I),
         refit: Some([-0.0; 9]),
     };
-    let again = trial_of_record(&trial_record(&trial)).expect("a record");
+    let again = trial_of_record::<Sheet>(&trial_record(&trial)).expect("a record");
     assert_eq!(trial_record(&again), trial_record(&trial));
     let mut state = open(options);
     try_one(&mut state, &fit(T));
-    assert_eq!(State::of_words(&state.words()).words(), state.words());
+    assert_eq!(
+        State::<Sheet>::of_words(&state.words()).words(),
+        state.words()
+    );
 }
 
 #[test]

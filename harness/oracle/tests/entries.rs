@@ -2,13 +2,13 @@
 
 use oracle::cases::{Random, step};
 use oracle::entries::{
-    closeness_differs, collinear, collinear_by_the_paper, distance, normalize, rows, side_of,
+    self, closeness_differs, collinear, collinear_by_the_paper, normalize, rows, side_of,
 };
 use oracle::sheet_cases::{
     DIFFERING, HYPOT_NO, HYPOT_YES, IDENTITY, LINE, SQUARE, both, few_marks, mark_traps, pair,
     refused_traps,
 };
-use oracle::{Measure, dlt_rows, normalize_points_2d, points_are_collinear};
+use oracle::{Mark, Measure, Model, Sheet, dlt_rows, normalize_points_2d, points_are_collinear};
 
 /// What a lent list holds before a call.
 const BEFORE: f64 = 7.0;
@@ -193,6 +193,10 @@ fn rows_refused_in_order() {
     // Without spread a side is on a line already: 12 doesn't come.
     assert_eq!(no_rows(&pair(&[[1.0, 1.0]; 4], &SQUARE), 72), 13);
     assert_eq!(no_rows(&pair(&SQUARE, &[[1.0, 1.0]; 4]), 72), 14);
+}
+
+fn distance(h: &Model, mark: &Mark, ratio: f64) -> Result<Measure, u32> {
+    entries::distance(&Sheet, h, mark, ratio)
 }
 
 #[test]

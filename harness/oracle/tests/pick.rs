@@ -1,8 +1,8 @@
 //! The picker really runs: 01's sheets to try, on the original.
 
 use oracle::{
-    Mark, Model, RansacOptions, Trial, calculate_iterations, is_better_model, ransac_fit, rms,
-    stop_list,
+    Mark, Model, RansacOptions, Sheet, Trial, calculate_iterations, is_better_model, ransac_fit,
+    rms, stop_list,
 };
 
 const MARKS: [Mark; 5] = [
@@ -32,7 +32,13 @@ fn fit(model: Model) -> Trial {
 
 #[test]
 fn the_better_of_two_models() {
-    let run = ransac_fit(&MARKS, &options(2.0, 2, 1, false), 1.0, &[fit(T), fit(I)]);
+    let run = ransac_fit(
+        Sheet,
+        &MARKS,
+        &options(2.0, 2, 1, false),
+        1.0,
+        &[fit(T), fit(I)],
+    );
     let winner = run.winner.expect("a winner");
     assert_eq!((winner.model, winner.number, winner.rms), (I, 2, 0.0));
     assert_eq!(winner.inliers, [0, 1, 2, 3]);
@@ -41,7 +47,7 @@ fn the_better_of_two_models() {
 
 #[test]
 fn the_threshold_is_included() {
-    let run = ransac_fit(&MARKS, &options(3.0, 1, 4, false), 1.0, &[fit(I)]);
+    let run = ransac_fit(Sheet, &MARKS, &options(3.0, 1, 4, false), 1.0, &[fit(I)]);
     let winner = run.winner.expect("a winner");
     assert_eq!(winner.inliers, [0, 1, 2, 3, 4]);
     assert_eq!(winner.rms, (9.0f64 / 5.0).sqrt());
@@ -51,7 +57,7 @@ fn the_threshold_is_included() {
 #[test]
 fn a_row_ratio() {
     let by = |ratio| {
-        let run = ransac_fit(&MARKS, &options(3.0, 1, 4, false), ratio, &[fit(I)]);
+        let run = ransac_fit(Sheet, &MARKS, &options(3.0, 1, 4, false), ratio, &[fit(I)]);
         run.winner.expect("a winner")
     };
     assert_eq!(by(0.5).inliers, [0, 1, 2, 3, 4]);
@@ -70,7 +76,7 @@ fn a_row_ratio_for_the_refit() {
         refit: Some(T),
     }];
     for (ratio, standing, count) in [(1.0, I, 4), (0.5, T, 5)] {
-        let run = ransac_fit(&MARKS, &options(2.0, 1, 4, true), ratio, &both);
+        let run = ransac_fit(Sheet, &MARKS, &options(2.0, 1, 4, true), ratio, &both);
         let winner = run.winner.expect("a winner");
         assert_eq!((winner.model, winner.inliers.len()), (standing, count));
     }
@@ -79,7 +85,7 @@ fn a_row_ratio_for_the_refit() {
 #[test]
 fn equal_trials_keep_the_first() {
     let trials = [Trial::default(), fit(I), fit(I)];
-    let run = ransac_fit(&MARKS, &options(2.0, 3, 4, false), 1.0, &trials);
+    let run = ransac_fit(Sheet, &MARKS, &options(2.0, 3, 4, false), 1.0, &trials);
     assert_eq!(run.winner.expect("a winner").number, 2);
 }
 
@@ -90,7 +96,7 @@ fn a_refit_stands_if_it_reaches_the_minimum() {
         refit: Some(T),
     }];
     for (min, refit, standing, count) in [(4, true, I, 4), (1, true, T, 1), (1, false, I, 4)] {
-        let run = ransac_fit(&MARKS, &options(2.0, 1, min, refit), 1.0, &both);
+        let run = ransac_fit(Sheet, &MARKS, &options(2.0, 1, min, refit), 1.0, &both);
         let winner = run.winner.expect("a winner");
         assert_eq!((winner.model, winner.inliers.len()), (standing, count));
     }
@@ -98,22 +104,46 @@ fn a_refit_stands_if_it_reaches_the_minimum() {
 
 #[test]
 fn no_marks_within() {
-    let run = ransac_fit(&MARKS, &options(2.0, 1, 1, false), 1.0, &[fit(BEHIND)]);
+    let run = ransac_fit(
+        Sheet,
+        &MARKS,
+        &options(2.0, 1, 1, false),
+        1.0,
+        &[fit(BEHIND)],
+    );
     assert!(run.winner.is_none());
-    let run = ransac_fit(&MARKS, &options(2.0, 1, 0, false), 1.0, &[fit(BEHIND)]);
+    let run = ransac_fit(
+        Sheet,
+        &MARKS,
+        &options(2.0, 1, 0, false),
+        1.0,
+        &[fit(BEHIND)],
+    );
     let winner = run.winner.expect("a winner");
     assert_eq!((winner.inliers.len(), winner.rms), (0, f64::INFINITY));
 }
 
 #[test]
 fn the_bound_follows_the_stop_list() {
-    let stops = stop_list(0.99, 5);
+    let stops = stop_list::<Sheet>(0.99, 5);
     assert_eq!(stops, [u32::MAX, 2876, 178, 34, 9, 1]);
     // Four of five marks: the run ends after nine trials.
-    let run = ransac_fit(&MARKS, &options(2.0, 100, 4, false), 1.0, &[fit(I); 100]);
+    let run = ransac_fit(
+        Sheet,
+        &MARKS,
+        &options(2.0, 100, 4, false),
+        1.0,
+        &[fit(I); 100],
+    );
     assert_eq!(run.read, 9);
     // All five: after the first.
-    let run = ransac_fit(&MARKS, &options(3.0, 100, 4, false), 1.0, &[fit(I); 100]);
+    let run = ransac_fit(
+        Sheet,
+        &MARKS,
+        &options(3.0, 100, 4, false),
+        1.0,
+        &[fit(I); 100],
+    );
     assert_eq!(run.read, 1);
 }
 
@@ -134,5 +164,11 @@ fn parts() {
 #[test]
 #[should_panic(expected = "a trial for each iteration")]
 fn too_few_trials() {
-    ransac_fit(&MARKS, &options(2.0, 3, 4, false), 1.0, &[fit(BEHIND)]);
+    ransac_fit(
+        Sheet,
+        &MARKS,
+        &options(2.0, 3, 4, false),
+        1.0,
+        &[fit(BEHIND)],
+    );
 }

@@ -1,6 +1,7 @@
 //! The writing of records by hand: the worked run's, the refusals and their
 //! orders, and the book's readers on what is written.
 
+use oracle::Sheet;
 use oracle::book::{Options, trial_of_record, trial_record};
 use oracle::cases::{Random, step};
 use oracle::example::{self, I, T};
@@ -132,7 +133,7 @@ fn the_book_reads_them() {
         assert_eq!(options(&numbers, 40), tested, "{numbers:?}");
         let numbers = writing_cases::trial(random);
         if [numbers.fit.len(), numbers.refit.len()] == [9, 9] {
-            let read = trial_of_record(&numbers.packed());
+            let read = trial_of_record::<Sheet>(&numbers.packed());
             let again = read.map(|read| trial_record(&read).to_vec());
             assert_eq!(trial(&numbers, 152), again, "{numbers:?}");
         }
