@@ -65,7 +65,10 @@ enum salghemu_refusal {
     /* A number that has no root, or a coefficient out of range. */
     SALGHEMU_NUMBER = 15,
     /* The row ratio is not finite, or not from 0.01 to 100. */
-    SALGHEMU_RATIO = 16
+    SALGHEMU_RATIO = 16,
+    /* A number of a standing form's camera is not finite, or of magnitude
+       above 1e9; no function here answers it. */
+    SALGHEMU_CAMERA = 17
 };
 
 /*

@@ -3,3 +3,4 @@ pub mod Listed
 pub mod Whole
 pub mod Demanded
 pub mod Old
+pub mod Signs
