@@ -17,7 +17,9 @@ ghost use Rattle.estimator.specs.Entry.{measured, distance_answer};
 
 use rule::Refusal;
 
-// What marks are measured by: a camera, or for sheets a value that says nothing.
+// A family. Its values are what marks are measured by: a camera, or for sheets one that says nothing. (The
+// source's trait also fits a candidate, which a fitting program does here, and its residual has no such
+// value.)
 pub trait Estimator: Copy {
     // A mark. In the terms of the field, a datum.
     type Datum: Copy;
@@ -66,16 +68,20 @@ pub trait Estimator: Copy {
     fn mark_in_range(m: Self::Datum) -> bool
         ensures { result ≡ all_within farthest (family.mark_numbers m) };
 
+    // The family's numbers are the constants.
     ghost width_is: { family.width ≡ WIDTH };
 
     ghost least_is: { family.least ≡ MIN_SAMPLES };
 
     ghost size_is: { family.size ≡ SIZE };
 
+    // 8,000 numbers are at most 2,000 marks, for which the picker has a place each.
     ghost wide: { 4 ≤ WIDTH };
 
+    // No length of a record overflows.
     ghost small: { SIZE ≤ 1000 };
 
+    // What is left over at the end of a list is no mark.
     ghost counts: { (l : List Float) → length (family.marks_of l) ≡ length l / WIDTH };
 }
 
