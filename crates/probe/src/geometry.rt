@@ -2,15 +2,18 @@
 // model and a mark as plain numbers.
 ghost use Rattle.std.specs.Prelude.{◌≡◌};
 ghost use Rattle.rule.specs.Answer.{told, gives};
+ghost use Rattle.estimator.specs.Family.{measure_of};
+ghost use Rattle.estimator.specs.Entry.{measured, distance_answer};
 ghost use Rattle.sheet.specs.Marks.{side_of};
-ghost use Rattle.sheet.specs.Distance.{projection_of, measure_of, distance_answer, measured};
+ghost use Rattle.sheet.specs.Distance.{projection_of};
+ghost use Rattle.sheet.specs.Sheets.{sheet, no_camera};
 ghost use Rattle.line.specs.Collinear.{collinear_answer};
 ghost use Rattle.probe.specs.Flat.{measure_told, value_of, told_of, part_of};
 ghost use Rattle.probe.specs.Plain.{model_of, mark_of, point_of, Written, MatrixEntry, RowsTold};
 
 use crate::{none, place_of};
 use rule::Refusal;
-use sheet::{Mark, Model, Point, Points, Side};
+use sheet::{Mark, Model, Point, Points, Sheet, Side};
 
 #[tactic(auto, using(crate::proofs::Cells::refusal_told))]
 #[unsafe(no_mangle)]
@@ -106,7 +109,7 @@ pub extern "C" fn probe_distance_told(
     v: f64,
     ratio: f64,
 ) -> u32
-    ensures { result ≡ measure_told (distance_answer ratio (model_of h0 h1 h2 h3 h4 h5 h6 h7 h8) (mark_of x y u v)) }
+    ensures { result ≡ measure_told (distance_answer sheet no_camera ratio (model_of h0 h1 h2 h3 h4 h5 h6 h7 h8) (mark_of x y u v)) }
 {
     let h = Model::from([h0, h1, h2, h3, h4, h5, h6, h7, h8]);
     told(sheet::distance(h, Mark { x, y, u, v }, ratio))
@@ -129,7 +132,7 @@ pub extern "C" fn probe_distance(
     v: f64,
     ratio: f64,
 ) -> f64
-    ensures { result ≡ value_of (distance_answer ratio (model_of h0 h1 h2 h3 h4 h5 h6 h7 h8) (mark_of x y u v)) }
+    ensures { result ≡ value_of (distance_answer sheet no_camera ratio (model_of h0 h1 h2 h3 h4 h5 h6 h7 h8) (mark_of x y u v)) }
 {
     let h = Model::from([h0, h1, h2, h3, h4, h5, h6, h7, h8]);
     value(sheet::distance(h, Mark { x, y, u, v }, ratio))
@@ -152,10 +155,10 @@ pub extern "C" fn probe_residual_told(
     v: f64,
     ratio: f64,
 ) -> u32
-    ensures { result ≡ measure_told (gives (measure_of ratio (model_of h0 h1 h2 h3 h4 h5 h6 h7 h8) (mark_of x y u v))) }
+    ensures { result ≡ measure_told (gives (measure_of sheet no_camera ratio (model_of h0 h1 h2 h3 h4 h5 h6 h7 h8) (mark_of x y u v))) }
 {
     let h = Model::from([h0, h1, h2, h3, h4, h5, h6, h7, h8]);
-    told(Ok(sheet::residual(h, Mark { x, y, u, v }, ratio)))
+    told(Ok(estimator::residual(Sheet, h, Mark { x, y, u, v }, ratio)))
 }
 
 #[unsafe(no_mangle)]
@@ -175,10 +178,10 @@ pub extern "C" fn probe_residual(
     v: f64,
     ratio: f64,
 ) -> f64
-    ensures { result ≡ value_of (gives (measure_of ratio (model_of h0 h1 h2 h3 h4 h5 h6 h7 h8) (mark_of x y u v))) }
+    ensures { result ≡ value_of (gives (measure_of sheet no_camera ratio (model_of h0 h1 h2 h3 h4 h5 h6 h7 h8) (mark_of x y u v))) }
 {
     let h = Model::from([h0, h1, h2, h3, h4, h5, h6, h7, h8]);
-    value(Ok(sheet::residual(h, Mark { x, y, u, v }, ratio)))
+    value(Ok(estimator::residual(Sheet, h, Mark { x, y, u, v }, ratio)))
 }
 
 #[unsafe(no_mangle)]
