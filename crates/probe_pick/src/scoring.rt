@@ -8,11 +8,11 @@ ghost use Rattle.sheet.specs.Sheets.{sheet, no_camera};
 ghost use Rattle.measure.specs.Found.{beyond_found};
 ghost use Rattle.score.specs.Places.{index_count, indexed};
 ghost use Rattle.score.specs.Less.{less_of};
-ghost use Rattle.probe_pick.specs.Scoring.{model_of, if_counted, below_of};
+ghost use Rattle.words.specs.Calls.{if_counted};
+ghost use Rattle.probe_pick.specs.Scoring.{model_of, below_of};
 
 use sheet::{Model, Sheet};
 
-#[tactic(auto, unfolding(crate::specs::Scoring::if_counted))]
 #[unsafe(no_mangle)]
 pub extern "C" fn probe_squared_residuals(
     h0: f64,
