@@ -1,15 +1,11 @@
 -- A list of numbers and its marks: which numbers the mark at a place has, and the points of a side. Assumes nothing.
 use mathlib.Core.Path.{◌≡◌, refl, ◌∙◌}
-use mathlib.Core.Bool.{false, not}
 use mathlib.Core.List.{List, [], ◌∷◌}
-use Prim.Native.Nat.{ℕ, zero, suc, ◌+◌, ◌*◌, ◌/◌, ◌%◌, ◌≤◌, ◌<◌}
+use Prim.Native.Nat.{ℕ, zero, suc, ◌+◌, ◌*◌, ◌/◌, ◌≤◌, ◌<◌}
 use native.Mathlib.Nat.{mul-suc}
 use native.Mathlib.Omega.{arith}
-use borrow.Author.Tests.{eq-eqb, le-ltb, ltb-false}
-use lib.Dec.{ltb, eqb}
 use lib.ListN.{length, get_or, length-map, get_or-map}
 use lib.Ieee.{Float, nan}
-use Rattle.rule.proofs.Tests.{neither}
 use Rattle.rule.proofs.Lists.{past_end}
 use Rattle.sheet.specs.Marks.{marks_of, mark_at, no_mark, point_of, points, point_at}
 use Rattle.sheet.specs.Owed.{counts}

@@ -1,15 +1,13 @@
 -- Where the row ratio is 1 every distance is what it was before there was one, NaNs and infinities included. Assumes nothing.
-use mathlib.Core.Path.{◌≡◌, refl}
-use mathlib.Core.Bool.{Bool, true, false, cond}
-use lib.Ieee.{Float, binary64}
+use mathlib.Core.Path.{◌≡◌}
+use lib.Ieee.{binary64}
 use lib.Ieee.Fits.{sub-fits}
 use Rattle.numbers.specs.Constants.{one}
-use Rattle.numbers.specs.Measure.{beyond, distance, is_beyond}
 use Rattle.numbers.specs.Ratio.{squared_off}
 use Rattle.numbers.proofs.Exact.{times_one}
-use Rattle.sheet.specs.Marks.{squared_apart}
 use Rattle.estimator.specs.Family.{measure_of}
-use Rattle.sheet.specs.Distance.{beyond_under, squared_residual, square_under, plain_measure_of}
+use Rattle.sheet.specs.Marks.{squared_apart}
+use Rattle.sheet.specs.Distance.{squared_residual, square_under, plain_measure_of}
 use Rattle.sheet.specs.Sheets.{sheet}
 use Rattle.sheet.specs.declared.model.Sheet.{Sheet}
 use Rattle.sheet.specs.declared.marks.Mark.{Mark}
