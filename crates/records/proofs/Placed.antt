@@ -82,7 +82,7 @@ ratio_placed l size =
 module _ (k : ℕ) where
   pub trial_size : size_of (trial_layout k) ≡ 8 + 16 * k
   unfolding size_of trial_layout
-  trial_size = rw (even_size 8 (2 * k)) (omega arith)
+  trial_size = omega (arith, even_size 8 (2 * k))
 
   module _ (l : List ℕ) (size : length l ≡ 8 + 16 * k) where
     abbrev trial : List ℕ

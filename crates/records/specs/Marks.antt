@@ -2,12 +2,7 @@
 -- marks have: 32 bytes a mark of a sheet, 40 of a form.
 use Rattle.std.specs.Prelude.{List, ℕ, ◌*◌, ◌/◌, length, take, Float}
 use Rattle.fields.specs.Fields.{doubles_of}
-use Rattle.estimator.specs.Family.{Family}
 
 -- the numbers of the whole marks of a file, w a mark; what is left over at the end is no mark
 unfoldable pub numbers_in : (w : ℕ) → List ℕ → List Float
 numbers_in w l = take (w * (length (doubles_of l) / w)) (doubles_of l)
-
--- those marks
-unfoldable pub marks_in : {E M K : Type 0} → Family E M K → List ℕ → List K
-marks_in f l = f.marks_of (doubles_of l)
