@@ -1,21 +1,13 @@
 // A sheet's state as its 25 words, and a trial's answer as its 29.
-ghost use Rattle.std.specs.Prelude.{◌≡◌, map};
+ghost use Rattle.std.specs.Prelude.{◌≡◌};
 ghost use Rattle.book.specs.Book.{held};
-ghost use Rattle.sheet.specs.Distance.{model_numbers};
 ghost use Rattle.sheet.specs.Sheets.{sheet};
 ghost use Rattle.pick.specs.Run.{view_winner, view_best, view_state, view_tried};
-ghost use Rattle.words.specs.Words.{bits, winner_words};
+ghost use Rattle.words.specs.Words.{winner_words};
 ghost use Rattle.probe_pick.specs.Words.{state_words, answer_words};
 
 use pick::{State, Tried, Winner};
 use sheet::{Model, Sheet};
-
-#[tactic(auto, unfolding(sheet::specs::Distance::model_numbers))]
-fn model_words(m: Model) -> [u64; 9]
-    ensures { result ≡ map bits (model_numbers m) }
-{
-    m.numbers().map(fields::bits_of)
-}
 
 #[tactic(auto, unfolding(words::specs::Words::winner_words))]
 fn held_words(w: Winner<Model>) -> [u64; 13]
@@ -23,7 +15,7 @@ fn held_words(w: Winner<Model>) -> [u64; 13]
 {
     let mut words = [0; 13];
     words[..4].copy_from_slice(&words::held_words(w));
-    words[4..].copy_from_slice(&model_words(w.model));
+    words[4..].copy_from_slice(&words::number_words(w.model.numbers()));
     words
 }
 

@@ -8,4 +8,4 @@ mod writing;
 
 pub use answers::{NO_STATE, NO_WORDS, indexed, put, put_opened};
 pub use reading::{number_at, state_in};
-pub use writing::{count_words, held_words, made_words, told_words};
+pub use writing::{count_words, held_words, made_words, number_words, told_words};

@@ -1,8 +1,8 @@
 // The words of options, counts, a winner and an answer. (A family puts them together, since only it knows
 // how many there are.)
-ghost use Rattle.std.specs.Prelude.{◌≡◌};
+ghost use Rattle.std.specs.Prelude.{◌≡◌, map};
 ghost use Rattle.pick.specs.Run.{view_winner, view_state, view_outcome, view_tried};
-ghost use Rattle.words.specs.Words.{made_words, count_words, held_words, outcome_words, told_words};
+ghost use Rattle.words.specs.Words.{bits, made_words, count_words, held_words, outcome_words, told_words};
 
 use pick::{Outcome, State, Tried, Winner};
 use records::RansacOptions;
@@ -34,6 +34,18 @@ pub fn count_words<E: Copy, M: Copy>(s: State<E, M>) -> [u64; 6]
         u64::from(c.scored),
         u64::from(c.bound),
     ]
+}
+
+// Some numbers'. (By a loop: `map` with its closure would have to be looked through number by number.)
+#[tactic(auto, using(crate::proofs::Numbers::words_none, crate::proofs::Numbers::words_more, crate::proofs::Numbers::words_all))]
+pub fn number_words<const N: usize>(numbers: [f64; N]) -> [u64; N]
+    ensures { result ≡ map bits numbers.entry }
+{
+    let mut words = [0; N];
+    for i in 0..N {
+        words[i] = fields::bits_of(numbers[i]);
+    }
+    words
 }
 
 // Those of a winner before its model's.
