@@ -4,7 +4,7 @@
 use std::env;
 use std::path::{Path, PathBuf};
 
-const ARCHIVES: [&str; 3] = ["probe", "probe_pick", "salghemu"];
+const ARCHIVES: [&str; 4] = ["probe", "probe_pick", "probe_form", "salghemu"];
 
 fn main() {
     println!("cargo:rerun-if-env-changed=PROBE_DIR");

@@ -1,0 +1,54 @@
+// A form's state as its 32 words, and a trial's answer as its 36.
+ghost use Rattle.std.specs.Prelude.{◌≡◌};
+ghost use Rattle.book.specs.Book.{held};
+ghost use Rattle.form.specs.Forms.{form};
+ghost use Rattle.pick.specs.Run.{view_winner, view_best, view_state, view_tried};
+ghost use Rattle.words.specs.Words.{winner_words};
+ghost use Rattle.probe_form.specs.Words.{state_words, answer_words};
+
+use form::{Camera, Model};
+use pick::{State, Tried, Winner};
+
+#[tactic(auto, unfolding(words::specs::Words::winner_words))]
+fn held_words(w: Winner<Model>) -> [u64; 16]
+    ensures { result ≡ winner_words form (held (view_winner w)) }
+{
+    let mut words = [0; 16];
+    words[..4].copy_from_slice(&words::held_words(w));
+    words[4..].copy_from_slice(&words::number_words(w.model.numbers()));
+    words
+}
+
+#[tactic(auto, unfolding(words::specs::Words::winner_words))]
+fn winner_words(best: Option<Winner<Model>>) -> [u64; 16]
+    ensures { result ≡ winner_words form (view_best best) }
+{
+    best.map_or([0; 16], held_words)
+}
+
+// A state's words. (The ratio's and the camera's, the last, before the winner's: the other way round the
+// check doesn't find the list. So in a trial's.)
+#[tactic(auto, unfolding(words::specs::Words::run_words))]
+pub(crate) fn state_words(s: State<Camera, Model>) -> [u64; 32]
+    ensures { result ≡ state_words (view_state s) }
+{
+    let options = words::made_words(s.options);
+    let mut words = [0; 32];
+    words[..5].copy_from_slice(&options[..5]);
+    words[5..11].copy_from_slice(&words::count_words(s));
+    words[28..].copy_from_slice(&words::number_words(s.estimator.numbers()));
+    words[27] = options[5];
+    words[11..27].copy_from_slice(&winner_words(s.winner));
+    words
+}
+
+// A trial's: the new state's, the outcome's and the number beyond.
+#[tactic(auto, unfolding(words::specs::Words::tried_words))]
+pub(crate) fn tried_words(t: Tried<Camera, Model>) -> [u64; 36]
+    ensures { result ≡ answer_words (view_tried t) }
+{
+    let mut words = [0; 36];
+    words[32..].copy_from_slice(&words::told_words(t));
+    words[..32].copy_from_slice(&state_words(t.state));
+    words
+}
