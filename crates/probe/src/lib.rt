@@ -15,20 +15,6 @@ ghost use Rattle.probe.specs.Flat.{refusal_of, count_of, place_of};
 
 use numbers::Quadratic;
 
-#[tactic(auto, using(rule::proofs::Nan::nan_bits_lem))]
-fn none() -> f64
-    ensures { result ≡ nan }
-{
-    f64::NAN
-}
-
-// The number at a place, a NaN where there is none.
-fn place_of(numbers: &[f64], place: u32) -> f64
-    ensures { result ≡ get_or numbers.now place nan }
-{
-    numbers.get(place as usize).copied().unwrap_or(none())
-}
-
 #[unsafe(no_mangle)]
 pub extern "C" fn probe_sqrt(a: f64) -> f64
     ensures { result ≡ root_of a }
@@ -42,7 +28,7 @@ pub extern "C" fn probe_sqrt_two(a: f64, b: f64, place: u32) -> f64
     ensures { result ≡ get_or (root_of a ∷ root_of b ∷ []) place nan }
 {
     let (x, y) = root::sqrt_two(a, b);
-    place_of(&[x, y], place)
+    flat::place_of(&[x, y], place)
 }
 
 #[unsafe(no_mangle)]
@@ -71,10 +57,10 @@ pub extern "C" fn probe_quadratic_root(a: f64, b: f64, c: f64, place: u32) -> f6
     ensures { result ≡ place_of place (quadratic_answer a b c) }
 {
     match numbers::solve_quadratic_real(a, b, c) {
-        Ok(Quadratic::NoRoot) => none(),
-        Ok(Quadratic::One(x)) => place_of(&[x], place),
-        Ok(Quadratic::Two(x, y)) => place_of(&[x, y], place),
-        Err(_) => none(),
+        Ok(Quadratic::NoRoot) => flat::none(),
+        Ok(Quadratic::One(x)) => flat::place_of(&[x], place),
+        Ok(Quadratic::Two(x, y)) => flat::place_of(&[x, y], place),
+        Err(_) => flat::none(),
     }
 }
 
