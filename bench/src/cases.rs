@@ -11,7 +11,7 @@ use oracle::family_cases::seen;
 use oracle::pick_cases::Case;
 use oracle::scoring::rms;
 use oracle::sheet_cases::IDENTITY;
-use oracle::{Family, Model, Numbers, Sheet, Trial, stop_list};
+use oracle::{Camera, Family, Form, Model, Numbers, Pose, Sheet, Trial, stop_list};
 
 /// The most marks of a sheet.
 pub const MARKS: usize = Sheet::MOST;
@@ -34,6 +34,20 @@ const TRUE: Model = [1.02, 0.03, 15.0, -0.02, 0.98, -7.0, 1e-5, -2e-5, 1.0];
 impl Timed for Sheet {
     fn through() -> (Self, Model) {
         (Self, TRUE)
+    }
+}
+
+/// A form's: points of up to a metre, in millimetres, two metres away.
+const CAMERA: Camera = [1000.0, 1005.0, 640.0, 480.0];
+const POSE: Pose = [
+    0.98, 0.05, -0.15, -400.0, //
+    -0.04, 0.99, 0.08, -450.0, //
+    0.16, -0.07, 0.98, 2000.0,
+];
+
+impl Timed for Form {
+    fn through() -> (Self, Pose) {
+        (Self { camera: CAMERA }, POSE)
     }
 }
 

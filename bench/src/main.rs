@@ -9,7 +9,7 @@ mod sheet;
 mod walk;
 mod write;
 
-use oracle::Sheet;
+use oracle::{Form, Sheet};
 use std::time::Instant;
 
 const ROUNDS: usize = 15;
@@ -40,6 +40,9 @@ fn main() {
     walk::run::<Sheet>();
     println!();
     walk::rms_of_a_list::<Sheet>();
+    println!();
+    println!("Standing forms:");
+    walk::run::<Form>();
     println!();
     run::run();
     println!();

@@ -3,6 +3,7 @@
 pub mod close;
 pub mod families;
 pub mod folded;
+pub mod lists;
 pub mod ratios;
 
 /// How many random cases: SALGHEMU_CASES, or the test's own number, times
@@ -75,10 +76,14 @@ pub fn all_came(counts: &[usize]) -> bool {
 #[macro_export]
 macro_rules! for_each_family {
     ($($name:ident),+ $(,)?) => {
-        mod sheets {
+        $crate::for_each_family!(@ sheets, oracle::Sheet: $($name),+);
+        $crate::for_each_family!(@ forms, oracle::Form: $($name),+);
+    };
+    (@ $family:ident, $of:ty: $($name:ident),+) => {
+        mod $family {
             $(#[test]
             fn $name() {
-                super::$name::<oracle::Sheet>();
+                super::$name::<$of>();
             })+
         }
     };

@@ -8,9 +8,10 @@ use compare::{all_came, cases, for_each_family, is_long, same};
 use oracle::cases::Random;
 use oracle::entries;
 use oracle::family_cases::distance;
+use oracle::form_cases::{self, PLAIN, USUAL, camera_orders, camera_traps};
 use oracle::ratio_cases;
 use oracle::sheet_cases::{distance_traps, ratio_traps};
-use oracle::{Mark, Measure, Model, Numbers, Sheet, measure};
+use oracle::{Form, Mark, Measure, Model, Numbers, Sheet, measure};
 use proved::BEYOND;
 
 for_each_family!(random_models, patterns);
@@ -217,6 +218,26 @@ fn traps_of_sheets() {
     }
     println!("distance, traps: {tally:?}");
     tally.met::<Sheet>();
+}
+
+#[test]
+fn traps_of_forms() {
+    let mut tally = Tally::default();
+    for (h, mark) in form_cases::distance_traps() {
+        for camera in [PLAIN.camera, USUAL, [-0.5, 1e9, 0.1, -1e9], [0.0; 4]] {
+            for ratio in ratio_cases::limits() {
+                compare(&Form { camera }, &h, &mark, ratio, &mut tally);
+            }
+        }
+        for camera in camera_traps() {
+            compare(&Form { camera }, &h, &mark, 2.0, &mut tally);
+        }
+    }
+    for (h, mark, ratio, camera) in camera_orders() {
+        compare(&Form { camera }, &h, &mark, ratio, &mut tally);
+    }
+    println!("distance, traps of forms: {tally:?}");
+    tally.met::<Form>();
 }
 
 /// A ratio that is mostly accepted.

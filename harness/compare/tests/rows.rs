@@ -1,19 +1,21 @@
-//! The proved rows against those of `dlt_homography`.
+//! The proved rows: a sheet's against those of `dlt_homography`, and a form's
+//! against the lines of `dlt`.
 
-use compare::{Tally, cases, is_long, junk, same_lists};
-use oracle::Sheet;
-use oracle::cases::Random;
+use compare::lists::{Entry, compare_lent};
+use compare::{junk, same_lists};
 use oracle::entries::{self, closeness_differs};
-use oracle::family_cases::marks;
-use oracle::sheet_cases::{HYPOT_NO, HYPOT_YES, SQUARE, all_traps, pair, room};
-
-/// Every number that the rows may answer but 12, which has not come up: a cross
-/// product above 1e-6 needs a point more than 1e-4 from the first, and points
-/// with one so far should have spread.
-const ANSWERS: [u32; 7] = [0, 5, 6, 7, 9, 13, 14];
+use oracle::form_cases::{self, cube};
+use oracle::sheet_cases::{self, HYPOT_NO, HYPOT_YES, SQUARE, pair};
+use oracle::{Form, Sheet};
+use proved::form;
 
 /// What isn't compared: no number of the rows.
 const SKIPPED: u32 = 2;
+
+/// Every number that a sheet's rows may answer but 12, which has not come up: a
+/// cross product above 1e-6 needs a point more than 1e-4 from the first, and
+/// points with one so far should have spread.
+const ANSWERS: [u32; 7] = [0, 5, 6, 7, 9, 13, 14];
 
 /// Whether the Rust asks its collinear tests, and they may differ from 01's.
 fn rows_differ(marks: &[f64], number: u32) -> bool {
@@ -22,49 +24,86 @@ fn rows_differ(marks: &[f64], number: u32) -> bool {
 
 /// Compares one, with the lent list; tells the refusal, 0 or SKIPPED.
 fn compare(marks: &[f64], room: usize) -> u32 {
-    let mut theirs = junk(room);
-    let number = entries::rows(marks, &mut theirs).err().unwrap_or(0);
+    let number = entries::rows(marks, &mut junk(room)).err().unwrap_or(0);
     if rows_differ(marks, number) {
         return SKIPPED;
     }
-    let mut ours = junk(room);
-    let refusal = proved::dlt_rows(marks, &mut ours);
-    assert_eq!(refusal, number, "room {room}, {marks:?}");
-    assert!(
-        same_lists(&ours, &theirs),
-        "room {room}, refusal {number}, {marks:?}: {ours:?}, not {theirs:?}"
-    );
-    number
+    let about = || format!("{marks:?}");
+    let original = |lent: &mut [f64]| entries::rows(marks, lent);
+    let answer = compare_lent(room, &about, original, |lent| proved::dlt_rows(marks, lent));
+    answer.err().unwrap_or(0)
+}
+
+/// The same of a form, where nothing is skipped.
+fn compare_form(marks: &[f64], room: usize) -> u32 {
+    let about = || format!("{marks:?}");
+    let original = |lent: &mut [f64]| entries::rows_form(marks, lent);
+    let answer = compare_lent(room, &about, original, |lent| form::dlt_rows(marks, lent));
+    answer.err().unwrap_or(0)
+}
+
+const OF_A_SHEET: Entry = Entry {
+    title: "rows (2: skipped)",
+    places: 18,
+    answers: &ANSWERS,
+    compare: &|_, marks, room| compare(marks, room),
+};
+
+const OF_A_FORM: Entry = Entry {
+    title: "rows of forms",
+    places: 24,
+    answers: &[0, 5, 6, 7, 9, 12],
+    compare: &|_, marks, room| compare_form(marks, room),
+};
+
+#[test]
+fn traps_of_sheets() {
+    OF_A_SHEET.traps::<Sheet>(&sheet_cases::all_traps());
 }
 
 #[test]
-fn traps() {
-    let mut tally = Tally::default();
-    for marks in all_traps() {
-        let need = marks.len() / 4 * 18;
-        for room in [need, need.saturating_sub(1), need + 1, need + 19, 0] {
-            tally.add(compare(&marks, room));
-        }
-    }
-    tally.show("rows, traps");
-    tally.met(&ANSWERS);
+fn traps_of_forms() {
+    OF_A_FORM.traps::<Form>(&form_cases::all_traps());
 }
 
 #[test]
-fn random_lists() {
-    let random = &mut Random::new(14);
-    let mut tally = Tally::default();
-    let count = cases(100_000);
-    for i in 0..count {
-        let marks = marks::<Sheet>(random, i);
-        let room = room(random, marks.len() / 4 * 18);
-        tally.add(compare(&marks, room));
+fn lists_of_sheets() {
+    let answers = [ANSWERS.as_slice(), &[SKIPPED]].concat();
+    let entry = Entry {
+        answers: &answers,
+        ..OF_A_SHEET
+    };
+    entry.random_lists::<Sheet>(14, 100_000);
+}
+
+#[test]
+fn lists_of_forms() {
+    OF_A_FORM.random_lists::<Form>(72, 60_000);
+}
+
+/// 5, 6, 7, 12, 9. A form's points on a line or a plane are no refusal: `dlt`
+/// finds that out behind its rows.
+#[test]
+fn order_of_forms() {
+    let nan = f64::NAN;
+    for (marks, number) in [
+        (vec![nan; 29], 5),
+        (vec![1.0; 8005], 5),
+        (vec![nan; 25], 6),
+        (vec![], 7),
+        (vec![1.0; 25], 7),
+        (cube(5), 7),
+        (vec![1.0; 30], 12),
+        (vec![1.0; 8000], 12),
+        (cube(6), 9),
+    ] {
+        assert_eq!(compare_form(&marks, 0), number);
     }
-    tally.show("rows (2: skipped)");
-    if is_long(count) {
-        tally.met(&ANSWERS);
-        tally.met(&[SKIPPED]);
-    }
+    assert_eq!(compare_form(&cube(6), 143), 9);
+    assert_eq!(compare_form(&cube(6), 144), 0);
+    let line = |i: u32| [i.into(), 0.0, 0.0, 1.0, 2.0];
+    let line: Vec<f64> = (0..6).flat_map(line).collect();
+    assert_eq!(compare_form(&line, 150), 0);
 }
 
 /// A listed difference, not compared: `hypot` in the Rust's second closeness

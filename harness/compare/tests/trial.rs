@@ -9,13 +9,14 @@ use oracle::book::{Book, Call, MODEL_AT, Options, State, Words, trial_record};
 use oracle::cases::{NANS, Random};
 use oracle::close_cases::close;
 use oracle::example::{BEHIND, I, SQUARE, T};
-use oracle::family_cases::identity;
+use oracle::family_cases::{Cases, identity};
+use oracle::form_cases::camera_traps;
 use oracle::pick_cases::{
     Case, NOT_OPTIONS, any_stops, damage_marks, damage_options, damage_trial, hand_made,
     other_length, reference, runs,
 };
 use oracle::ratio_cases;
-use oracle::{Numbers, Sheet, Trial};
+use oracle::{Family, Form, Numbers, Sheet, Trial};
 use proved::pick::{self, NO_WORDS};
 
 /// A number of runs from which on every answer must come up.
@@ -30,6 +31,7 @@ for_each_family!(
     lengths_of_options,
     ratios_of_openings,
     openings_of_any_options,
+    how_many_marks,
     no_room_for_words,
     trials_give_what_ransac_fit_gives,
     trials_of_close_candidates,
@@ -376,6 +378,33 @@ fn lengths_of_options<F: Proved>() {
     }
 }
 
+/// A camera's record has 32 bytes and no other number of them, its numbers in
+/// order, and 17 is asked of each.
+#[test]
+fn cameras_of_openings() {
+    let random = &mut Random::new(49);
+    let case = Form::example();
+    let record = case.options.record();
+    let open = |camera: &[u8]| open::<Form>([&record, camera], &case.marks, &case.stops);
+    for len in (0..100).chain([160, 200, 64_000]) {
+        let mut other = case.family.record();
+        other.resize(len, 0);
+        assert_eq!(open(&other), u32::from(len != 32), "{len} bytes");
+    }
+    let mut tally = Tally::default();
+    let traps = camera_traps().into_iter().map(|camera| Form { camera });
+    let others = (0..runs(4_000, 50)).map(|_| Form::any(random));
+    for family in traps.chain(others) {
+        let number = open(&family.record());
+        assert_eq!(number, family.tested().err().unwrap_or(0));
+        let told = open_options(&family, &case.options, &case.marks, &case.stops);
+        assert_eq!(told, number);
+        tally.add(number);
+    }
+    tally.show("cameras of openings");
+    tally.met(&[0, 17]);
+}
+
 /// The ratio by itself: each limit, from a record and from the type.
 fn ratios_of_openings<F: Proved>() {
     let case = F::example();
@@ -442,6 +471,49 @@ fn the_maker_from_a_threshold() {
         theirs[..5].copy_from_slice(&case.words()[..5]);
         theirs[5] = 1f64.to_bits();
         assert_eq!(words, theirs);
+    }
+}
+
+/// The fewest marks and the most, and one mark less or more; a trial over the
+/// most counts them all, within or beyond.
+fn how_many_marks<F: Proved>() {
+    let case = F::example();
+    let mark = &case.marks[..F::WIDTH];
+    let value = case.family.record();
+    let records: [&[u8]; 2] = [&case.options.record(), &value];
+    for (n, number) in [
+        (0, 7),
+        (1, 7),
+        (F::FEWEST - 1, 7),
+        (F::FEWEST, 0),
+        (F::MOST, 0),
+        (F::MOST + 1, 5),
+    ] {
+        let (marks, stops) = (mark.repeat(n), vec![9; n + 1]);
+        let told = open::<F>(records, &marks, &stops);
+        assert_eq!(told, number, "{n} marks");
+        let told = open_options(&case.family, &case.options, &marks, &stops);
+        assert_eq!(told, number, "{n} marks");
+        if number > 0 {
+            continue;
+        }
+        let many = Case {
+            marks,
+            stops,
+            ..case.clone()
+        };
+        let words = opening(&many);
+        for (model, answer) in [
+            (identity::<F>(), [4, n as u64, 0, 0]),
+            (behind::<F>(), [2, 0, 0, n as u64]),
+        ] {
+            let trial = Trial {
+                fit: Some(model),
+                refit: None,
+            };
+            let told = compare::<F>(&words, &Handed::of(&many, &trial).call());
+            assert_eq!(*parts(&told).1, answer);
+        }
     }
 }
 
@@ -795,6 +867,30 @@ fn hand_made_ratios<F: Proved>() {
         // Beyond doesn't depend on it.
         let told = worked_by::<F>(&changes, behind::<F>());
         assert_eq!(parts(&told).1[3], n);
+    }
+}
+
+/// A camera that no opening accepts is used as it is, and comes back; beyond
+/// doesn't depend on it. With a NaN in it nothing is within.
+#[test]
+fn hand_made_cameras() {
+    let n = Form::example().n() as u64;
+    let (inf, nan) = (f64::INFINITY, f64::NAN);
+    for place in 0..4 {
+        for x in [nan, inf, -inf, f64::MAX, 2e9, 0.0, -0.0] {
+            let at = Form::RATIO_AT + 1 + place;
+            let changes = [(at, x.to_bits()), (0, inf.to_bits())];
+            let told = worked::<Form>(&changes[..1]);
+            assert_eq!(f64::from_bits(told[at]).is_nan(), x.is_nan());
+            assert!(x.is_nan() || told[at] == x.to_bits());
+            assert!(!x.is_nan() || *parts(&told).1 == [2, 0, 0, 0]);
+            let told = worked_by::<Form>(&changes[..1], behind::<Form>());
+            assert_eq!(*parts(&told).1, [2, 0, 0, n]);
+            // An infinite threshold takes in what is far, and no NaN.
+            let told = worked::<Form>(&changes);
+            let within = parts(&told).1[1];
+            assert!(if x.is_nan() { within == 0 } else { within > 0 });
+        }
     }
 }
 

@@ -24,6 +24,7 @@ pub struct Form {
 }
 
 /// A point's coordinate by one row of a model.
+#[inline]
 fn turned(row: &[f64], &[x, y, z, ..]: &FormMark) -> f64 {
     ((row[0] * x + row[1] * y) + row[2] * z) + row[3]
 }
@@ -53,10 +54,12 @@ impl Family for Form {
     }
 
     /// Z.
+    #[inline]
     fn divisor(h: &Pose, mark: &FormMark) -> f64 {
         turned(&h[8..], mark)
     }
 
+    #[inline]
     fn mapped(&self, h: &Pose, mark: &FormMark) -> [f64; 2] {
         let [fx, fy, cx, cy] = self.camera;
         let z = Self::divisor(h, mark);

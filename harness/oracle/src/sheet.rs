@@ -63,10 +63,12 @@ impl Family for Sheet {
     }
 
     /// 01's s.
+    #[inline]
     fn divisor(h: &Model, &[x, y, ..]: &Mark) -> f64 {
         (h[6] * x + h[7] * y) + h[8]
     }
 
+    #[inline]
     fn mapped(&self, h: &Model, mark: &Mark) -> [f64; 2] {
         let (s, &[x, y, ..]) = (Self::divisor(h, mark), mark);
         let across = ((h[0] * x + h[1] * y) + h[2]) / s;

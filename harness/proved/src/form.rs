@@ -10,8 +10,9 @@
 //! A state is 32 words: the sheet's, with the winner's model of twelve numbers
 //! for nine in words 15 to 26, so that the ratio is word 27, and the camera's
 //! numbers in words 28 to 31. `oracle::book::State::words` has them so. A
-//! trial's answer is 36. A record of options has 32 bytes or 40, one of a
-//! camera 32, a trial's 200.
+//! trial's answer is 36. What a call with too few words or places answers is
+//! as for a sheet. A record of options has 32 bytes or 40, one of a camera 32,
+//! a trial's 200.
 
 mod c {
     unsafe extern "C" {
