@@ -1,6 +1,6 @@
 //! The checked-in answers are those of the oracle today.
 
-use oracle::{answers, records, sheets};
+use oracle::{answers, forms, records, sheets};
 use std::collections::BTreeSet;
 use std::path::Path;
 
@@ -23,6 +23,34 @@ fn the_numbers_file_is_todays() {
 #[test]
 fn the_sheet_file_is_todays() {
     is_todays(sheets::FILE, sheets::records(), 302);
+}
+
+#[test]
+fn the_form_file_is_todays() {
+    is_todays(forms::FILE, forms::records(), 420);
+}
+
+/// Each kind shows all its refusals; a distance and a mark that is beyond are
+/// among those that have none.
+#[test]
+fn the_form_file_shows_every_refusal() {
+    let list = forms::records();
+    let shows = |kind: u64, number: u64| list.iter().any(|r| (r[0], r[3]) == (kind, number));
+    let expected = [
+        (1, vec![0, 5, 6, 9, 12]),
+        (2, vec![0, 5, 6, 7, 9, 12]),
+        (3, vec![0, 1, 6, 16, 17]),
+        (4, vec![0]),
+    ];
+    for (kind, numbers) in expected {
+        for number in numbers {
+            assert!(shows(kind, number), "{kind} shows no {number}");
+        }
+    }
+    let measured = |beyond: u64| list.iter().any(|r| (r[0], r[3], r[228]) == (3, 0, beyond));
+    assert!(measured(0) && measured(1));
+    let counted = |r: &&forms::Record| r[0] == 4 && r[227] != 0;
+    assert!(list.iter().any(|r| counted(&r)) && list.iter().any(|r| r[0] == 4 && !counted(&r)));
 }
 
 /// Each kind shows all its refusals that an input of at most 20 numbers can.

@@ -13,6 +13,7 @@ mod family;
 pub mod family_cases;
 mod form;
 pub mod form_cases;
+pub mod forms;
 mod numbers;
 mod pick;
 pub mod pick_cases;
