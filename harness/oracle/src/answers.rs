@@ -13,7 +13,7 @@
 //! Floats are bit patterns, every NaN 7ff8000000000000; what is left is zero.
 
 use crate::cases::{self, Coefficients, Random, Rank};
-use crate::records::{bits, put};
+use crate::records::{bits, floats, put};
 use crate::{dlt_rank_ok, ensure_finite, quadratic, root};
 
 pub type Record = [u64; 12];
@@ -110,12 +110,7 @@ fn put_values(record: &mut Record, values: &[f64]) {
 /// One record as a line to read.
 pub fn line(record: &Record) -> String {
     let float = |place: usize| format!("{:e}", f64::from_bits(record[place]));
-    let floats = |from: usize, count: u64| {
-        (from..from + count as usize)
-            .map(float)
-            .collect::<Vec<_>>()
-            .join(" ")
-    };
+    let floats = |from, count| floats(record, from, count);
     match record[0] {
         1 if record[2] == 0 => format!("root {} is {}", float(1), float(3)),
         1 => format!("root {} refused {}", float(1), record[2]),

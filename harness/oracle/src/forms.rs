@@ -22,7 +22,7 @@ use crate::entries;
 use crate::family_cases::{self, Cases};
 use crate::form_cases::{self, cube, distance_traps};
 use crate::ratio_cases;
-use crate::records::{bits, put};
+use crate::records::{bits, floats, put};
 use crate::{Camera, Family, Form, FormMark, Measure, Numbers, Pose};
 
 pub type Record = [u64; 256];
@@ -57,8 +57,8 @@ pub fn records() -> Vec<Record> {
     list
 }
 
-/// Short lists of marks, every third of the traps among them, and how many places more than they need are lent: one
-/// less where it is −1.
+/// Short lists of marks, every third of the traps among them, and how many
+/// places more than they need are lent: one less where it is −1.
 fn lists(random: &mut Random) -> Vec<(Vec<f64>, isize)> {
     let mut list: Vec<_> = form_cases::all_traps()
         .into_iter()
@@ -194,13 +194,7 @@ fn of_measuring(h: &Pose, marks: &[f64], family: Form, ratio: f64, spare: isize)
 
 /// One record as a line to read.
 pub fn line(record: &Record) -> String {
-    let floats = |from: usize, count: u64| {
-        record[from..from + count as usize]
-            .iter()
-            .map(|&word| format!("{:e}", f64::from_bits(word)))
-            .collect::<Vec<_>>()
-            .join(" ")
-    };
+    let floats = |from, count| floats(record, from, count);
     let kind = ["normalising", "rows", "distance", "measuring"][record[0] as usize - 1];
     let by = match record[0] {
         3 | 4 => format!(" by [{}]", floats(MODEL, 17)),

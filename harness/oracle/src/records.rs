@@ -19,6 +19,15 @@ pub fn put(record: &mut [u64], from: usize, numbers: &[f64]) {
     }
 }
 
+/// So many floats from a word on, as a line has them.
+pub fn floats(record: &[u64], from: usize, count: u64) -> String {
+    record[from..from + count as usize]
+        .iter()
+        .map(|&word| format!("{:e}", f64::from_bits(word)))
+        .collect::<Vec<_>>()
+        .join(" ")
+}
+
 /// A file's bytes: every word little-endian.
 pub fn bytes<const N: usize>(records: Vec<[u64; N]>) -> Vec<u8> {
     let words = records.into_iter().flatten();

@@ -23,7 +23,7 @@ use crate::cases::Random;
 use crate::entries;
 use crate::family_cases;
 use crate::ratio_cases;
-use crate::records::{bits, put};
+use crate::records::{bits, floats, put};
 use crate::sheet_cases::{
     self, SQUARE, both, distance_traps, line_traps, ratio_traps, refused_traps, spread_traps,
     usual_traps,
@@ -255,13 +255,7 @@ fn of_distance(h: &Model, mark: &Mark, ratio: f64) -> Record {
 
 /// One record as a line to read.
 pub fn line(record: &Record) -> String {
-    let floats = |from: usize, count: u64| {
-        record[from..from + count as usize]
-            .iter()
-            .map(|&word| format!("{:e}", f64::from_bits(word)))
-            .collect::<Vec<_>>()
-            .join(" ")
-    };
+    let floats = |from, count| floats(record, from, count);
     let kind = ["normalising", "collinear", "rows", "distance"][record[0] as usize - 1];
     let side = match record[..2] {
         [1 | 2, 0] => " sheet",
