@@ -1,3 +1,4 @@
 pub mod Range
 pub mod View
 pub mod Tests
+pub mod Stride

@@ -1,4 +1,5 @@
 pub mod Family
+pub mod Double
 pub mod Marks
 pub mod Numbers
 pub mod Entry

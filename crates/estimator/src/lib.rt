@@ -2,7 +2,7 @@
 // `Estimator`): what each family gives, and the tests of a list of marks, which all of them share.
 #![tactic(auto)]
 
-ghost use Rattle.std.specs.Prelude.{◌≡◌, OnOk, ℕ, List, ◌≤◌, ◌/◌, eqb, length, Float};
+ghost use Rattle.std.specs.Prelude.{◌≡◌, OnOk, ℕ, List, ◌≤◌, ◌<◌, ◌*◌, ◌/◌, eqb, length, take, drop, Float};
 ghost use Rattle.std.specs.Float.{binary64};
 ghost use Rattle.std.specs.Float.Ieee.{to_bits};
 ghost use Rattle.rule.specs.Answer.{refusal_in, told};
@@ -11,10 +11,13 @@ ghost use Rattle.rule.specs.Order.{first_failed};
 ghost use Rattle.numbers.specs.Constants.{farthest};
 ghost use Rattle.numbers.specs.Finite.{all_finite, within};
 ghost use Rattle.estimator.specs.Family.{Family, mark_at, measure_of, squared_distance_of};
-ghost use Rattle.estimator.specs.Marks.{all_within, shape_tests, marks_tests};
+ghost use Rattle.estimator.specs.Marks.{all_within, shape_tests, marks_tests, enough_tests, run_tests};
 ghost use Rattle.estimator.specs.Numbers.{doubles_formed, model_read};
 ghost use Rattle.estimator.specs.Entry.{measured, distance_answer};
 
+mod doubles;
+
+use doubles::doubled;
 use rule::Refusal;
 
 // A family. Its values are what marks are measured by: a camera, or for sheets one that says nothing. (The
@@ -83,6 +86,9 @@ pub trait Estimator: Copy {
 
     // What is left over at the end of a list is no mark.
     ghost counts: { (l : List Float) → length (family.marks_of l) ≡ length l / WIDTH };
+
+    // A mark's numbers stand side by side.
+    ghost placed: { (l : List Float) (i : ℕ) → i < length l / WIDTH → family.mark_numbers (mark_at family l i) ≡ take WIDTH (drop (WIDTH * i) l) };
 }
 
 // How many marks: those that the list has in full.
@@ -128,8 +134,8 @@ pub fn all_in_range(numbers: &[f64]) -> bool
     all
 }
 
-// The tests of a list of marks, in order: refused with 5 or 6.
-#[tactic(auto, unfolding(rule::specs::Order::first_failed, crate::specs::Marks::marks_tests, crate::specs::Marks::shape_tests, crate::specs::Marks::shape, crate::specs::Marks::point))]
+// The tests of a list of marks, in order: refused with 5, 6 or 18.
+#[tactic(auto, unfolding(rule::specs::Order::first_failed, crate::specs::Marks::marks_tests, crate::specs::Marks::shape_tests, crate::specs::Marks::shape, crate::specs::Marks::point, crate::specs::Marks::double))]
 pub fn check_marks<E: Estimator>(marks: &[f64]) -> Result<(), Refusal>
     ensures refusal_value { refusal_in result ≡ first_failed (marks_tests E.family marks.now) }
     ensures few_enough { OnOk result (length (E.family.marks_of marks.now) ≤ 2000) }
@@ -138,7 +144,37 @@ pub fn check_marks<E: Estimator>(marks: &[f64]) -> Result<(), Refusal>
     if !all_in_range(marks) {
         return Err(Refusal::Point);
     }
+    if doubled::<E>(marks) {
+        return Err(Refusal::Double);
+    }
     Ok(())
+}
+
+// The tests of the marks of a run whose shape was tested, in order: refused with 6, 18 or 7.
+#[tactic(auto, unfolding(rule::specs::Order::first_failed, crate::specs::Marks::enough_tests, crate::specs::Marks::point, crate::specs::Marks::double, crate::specs::Marks::few))]
+pub fn check_enough<E: Estimator>(marks: &[f64]) -> Result<(), Refusal>
+    ensures { refusal_in result ≡ first_failed (enough_tests E.family marks.now) }
+{
+    if !all_in_range(marks) {
+        return Err(Refusal::Point);
+    }
+    if doubled::<E>(marks) {
+        return Err(Refusal::Double);
+    }
+    if mark_count::<E>(marks) < E::MIN_SAMPLES {
+        return Err(Refusal::Few);
+    }
+    Ok(())
+}
+
+// The tests of the marks of a run, in order: refused with 5, 6, 18 or 7.
+#[tactic(auto, unfolding(rule::specs::Order::first_failed, crate::specs::Marks::run_tests, crate::specs::Marks::shape_tests, crate::specs::Marks::shape))]
+pub fn check_run<E: Estimator>(marks: &[f64]) -> Result<(), Refusal>
+    ensures refusal_value { refusal_in result ≡ first_failed (run_tests E.family marks.now) }
+    ensures few_enough { OnOk result (length (E.family.marks_of marks.now) ≤ 2000) }
+{
+    check_shape::<E>(marks)?;
+    check_enough::<E>(marks)
 }
 
 fn zero_bits(numbers: &[f64]) -> bool

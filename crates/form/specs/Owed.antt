@@ -1,11 +1,13 @@
 -- That forms are what a family has to be. (Nothing here has to be read: it is checked.)
-use mathlib.Core.Path.{◌≡◌, refl}
+use mathlib.Core.Path.{◌≡◌, refl, ◌∙◌}
 use mathlib.Core.List.{List, [], ◌∷◌}
-use Prim.Native.Nat.{◌/◌, ◌≤◌}
+use Prim.Native.Nat.{ℕ, zero, suc, ◌*◌, ◌/◌, ◌≤◌, ◌<◌}
 use native.Mathlib.Omega.{arith}
-use lib.ListN.{length}
+use lib.ListN.{length, get_or, take, drop}
 use lib.Ieee.{Float}
-use Rattle.form.specs.Marks.{marks_of}
+use Rattle.estimator.specs.Family.{mark_at}
+use Rattle.form.specs.Marks.{marks_of, mark_numbers}
+use Rattle.form.specs.Forms.{form}
 
 pub wide : 4 ≤ 5
 wide = omega arith
@@ -21,3 +23,16 @@ counts (x ∷ y ∷ []) = refl
 counts (x ∷ y ∷ z ∷ []) = refl
 counts (x ∷ y ∷ z ∷ u ∷ []) = refl
 counts (x ∷ y ∷ z ∷ u ∷ v ∷ rest) = let h = counts rest in omega arith
+
+next : (i : ℕ) → 5 * suc i ≡ suc (suc (suc (suc (suc (5 * i)))))
+next i = omega arith
+
+pub placed : (l : List Float) (i : ℕ) → i < length l / 5 → form.mark_numbers (mark_at form l i) ≡ take 5 (drop (5 * i) l)
+unfolding mark_at marks_of mark_numbers
+placed [] i h = absurd (omega (arith, h))
+placed (x ∷ []) i h = absurd (omega (arith, h))
+placed (x ∷ y ∷ []) i h = absurd (omega (arith, h))
+placed (x ∷ y ∷ z ∷ []) i h = absurd (omega (arith, h))
+placed (x ∷ y ∷ z ∷ u ∷ []) i h = absurd (omega (arith, h))
+placed (x ∷ y ∷ z ∷ u ∷ v ∷ rest) zero h = refl
+placed (x ∷ y ∷ z ∷ u ∷ v ∷ rest) (suc i) h = rw (next i) (placed rest i (omega (arith, h)))

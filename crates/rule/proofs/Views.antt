@@ -34,6 +34,7 @@ in-order =
     ∷ Refusals.Number
     ∷ Refusals.Ratio
     ∷ Refusals.Camera
+    ∷ Refusals.Double
     ∷ []
 
 refusal_of : ℕ → Refusal
@@ -58,6 +59,7 @@ numbered Refusals.PixelLine = refl
 numbered Refusals.Number = refl
 numbered Refusals.Ratio = refl
 numbered Refusals.Camera = refl
+numbered Refusals.Double = refl
 
 -- 0 is no refusal's number
 pub number_above_0 : {A : Type 0} (e : Refusal) → number_of e ≡ 0 → A
@@ -78,6 +80,7 @@ number_above_0 Refusals.PixelLine h = absurd (omega (arith, h))
 number_above_0 Refusals.Number h = absurd (omega (arith, h))
 number_above_0 Refusals.Ratio h = absurd (omega (arith, h))
 number_above_0 Refusals.Camera h = absurd (omega (arith, h))
+number_above_0 Refusals.Double h = absurd (omega (arith, h))
 
 module _ {A B : Type 0} (view : A → B) (back : B → A) (undone : (a : A) → back (view a) ≡ a) where
   result_of : Answer B → Result A Refusal

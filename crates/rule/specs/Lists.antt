@@ -1,11 +1,14 @@
--- Lists, looked through from the front: a test of every element, a count, a sum, the parts that a list is cut into, and what is written for each element
+-- Lists, looked through from the front: a test of every element or of some element, a count, a sum, the parts that a list is cut into, and what is written for each element
 -- or into a part.
 use Rattle.std.specs.Prelude.{Bool, cond, List, [], ◌∷◌, ◌++◌, ℕ, zero, suc, ◌+◌, ◌/◌, ltb, length, take, drop, filter, fold, Float}
-use Rattle.std.specs.List.{list_all}
+use Rattle.std.specs.List.{list_all, list_any}
 use Rattle.rule.specs.Arith.{◌⊕◌}
 
 abbrev pub every : {A : Type 0} → (A → Bool) → List A → Bool
 every test l = list_all test l
+
+abbrev pub some : {A : Type 0} → (A → Bool) → List A → Bool
+some test l = list_any test l
 
 unfoldable pub count_of : {A : Type 0} → (A → Bool) → List A → ℕ
 count_of test [] = 0

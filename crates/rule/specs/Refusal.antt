@@ -71,6 +71,10 @@ RATIO = 16
 abbrev pub CAMERA : ℕ
 CAMERA = 17
 
+-- two marks have one position and two pixels
+abbrev pub DOUBLE : ℕ
+DOUBLE = 18
+
 -- the number of each refusal of the code
 abbrev pub number_of : Refusal → ℕ
 number_of Refusals.Record = RECORD
@@ -90,3 +94,4 @@ number_of Refusals.PixelLine = PIXEL_LINE
 number_of Refusals.Number = NUMBER
 number_of Refusals.Ratio = RATIO
 number_of Refusals.Camera = CAMERA
+number_of Refusals.Double = DOUBLE

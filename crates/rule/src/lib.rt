@@ -28,6 +28,7 @@ pub enum Refusal {
     Number = 15,
     Ratio = 16,
     Camera = 17,
+    Double = 18,
 }
 
 impl From<Refusal> for u32 {

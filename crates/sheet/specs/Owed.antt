@@ -1,11 +1,13 @@
 -- That sheets are what a family has to be. (Nothing here has to be read: it is checked.)
-use mathlib.Core.Path.{◌≡◌, refl}
+use mathlib.Core.Path.{◌≡◌, refl, ◌∙◌}
 use mathlib.Core.List.{List, [], ◌∷◌}
-use Prim.Native.Nat.{◌/◌, ◌≤◌}
+use Prim.Native.Nat.{ℕ, zero, suc, ◌*◌, ◌/◌, ◌≤◌, ◌<◌}
 use native.Mathlib.Omega.{arith}
-use lib.ListN.{length}
+use lib.ListN.{length, get_or, take, drop}
 use lib.Ieee.{Float}
-use Rattle.sheet.specs.Marks.{marks_of}
+use Rattle.estimator.specs.Family.{mark_at}
+use Rattle.sheet.specs.Marks.{marks_of, mark_numbers}
+use Rattle.sheet.specs.Sheets.{sheet}
 
 pub wide : 4 ≤ 4
 wide = omega arith
@@ -20,3 +22,15 @@ counts (x ∷ []) = refl
 counts (x ∷ y ∷ []) = refl
 counts (x ∷ y ∷ u ∷ []) = refl
 counts (x ∷ y ∷ u ∷ v ∷ rest) = let h = counts rest in omega arith
+
+next : (i : ℕ) → 4 * suc i ≡ suc (suc (suc (suc (4 * i))))
+next i = omega arith
+
+pub placed : (l : List Float) (i : ℕ) → i < length l / 4 → sheet.mark_numbers (mark_at sheet l i) ≡ take 4 (drop (4 * i) l)
+unfolding mark_at marks_of mark_numbers
+placed [] i h = absurd (omega (arith, h))
+placed (x ∷ []) i h = absurd (omega (arith, h))
+placed (x ∷ y ∷ []) i h = absurd (omega (arith, h))
+placed (x ∷ y ∷ u ∷ []) i h = absurd (omega (arith, h))
+placed (x ∷ y ∷ u ∷ v ∷ rest) zero h = refl
+placed (x ∷ y ∷ u ∷ v ∷ rest) (suc i) h = rw (next i) (placed rest i (omega (arith, h)))

@@ -4,7 +4,7 @@ ghost use Rattle.std.specs.Prelude.{◌≡◌, refl};
 ghost use Rattle.rule.specs.Answer.{told};
 ghost use Rattle.estimator.specs.Entry.{measured, distance_answer};
 ghost use Rattle.sheet.specs.Sheets.{sheet, no_camera};
-ghost use Rattle.sheet.specs.Owed.{wide, small, counts};
+ghost use Rattle.sheet.specs.Owed.{wide, small, counts, placed};
 
 use crate::marks::{Mark, Side, mark_at, point_of};
 use crate::model::{Model, Sheet, project, squared_residual};
@@ -75,6 +75,8 @@ impl Estimator for Sheet {
     ghost small = { small };
 
     ghost counts = { counts };
+
+    ghost placed = { placed };
 }
 
 // The distance of a mark under a candidate by a row ratio, none where the mark is beyond; refused with 1
