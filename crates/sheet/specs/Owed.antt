@@ -1,9 +1,9 @@
 -- That sheets are what a family has to be. (Nothing here has to be read: it is checked.)
-use mathlib.Core.Path.{◌≡◌, refl, ◌∙◌}
+use mathlib.Core.Path.{◌≡◌, refl}
 use mathlib.Core.List.{List, [], ◌∷◌}
 use Prim.Native.Nat.{ℕ, zero, suc, ◌*◌, ◌/◌, ◌≤◌, ◌<◌}
 use native.Mathlib.Omega.{arith}
-use lib.ListN.{length, get_or, take, drop}
+use lib.ListN.{length, take, drop}
 use lib.Ieee.{Float}
 use Rattle.estimator.specs.Family.{mark_at}
 use Rattle.sheet.specs.Marks.{marks_of, mark_numbers}
