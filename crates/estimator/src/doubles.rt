@@ -1,7 +1,9 @@
 // Marks of one position and two pixels (document 02, order 6): whether a list has two of them.
-ghost use Rattle.std.specs.Prelude.{◌≡◌, ◌<◌, ◌/◌, length};
+ghost use Rattle.std.specs.Prelude.{◌≡◌, ◌<◌, ◌≤◌, ◌/◌, true, length};
 ghost use Rattle.rule.specs.Lists.{some};
+ghost use Rattle.numbers.specs.Constants.{farthest};
 ghost use Rattle.estimator.specs.Family.{mark_at};
+ghost use Rattle.estimator.specs.Marks.{all_within};
 ghost use Rattle.estimator.specs.Double.{clash, doubled};
 
 use crate::{Estimator, mark_count};
@@ -43,6 +45,8 @@ fn clashes<E: Estimator>(marks: &[f64], i: usize) -> bool
 // Whether two of the marks have one position and two pixels.
 #[tactic(auto, using(std::proofs::lemmas::List::Folds::list_any_more), unfolding(crate::specs::Family::mark_at, crate::specs::Double::doubled))]
 pub fn doubled<E: Estimator>(marks: &[f64]) -> bool
+    requires in_range { all_within farthest marks.now ≡ true }
+    requires short { length marks.now ≤ 8000 }
     ensures { result ≡ doubled E.family (E.family.marks_of marks.now) }
 {
     let mut any = false;

@@ -103,6 +103,7 @@ pub fn mark_count<E: Estimator>(marks: &[f64]) -> usize
 pub fn check_shape<E: Estimator>(marks: &[f64]) -> Result<(), Refusal>
     ensures refusal_value { refusal_in result ≡ first_failed (shape_tests E.family marks.now) }
     ensures few_enough { OnOk result (length (E.family.marks_of marks.now) ≤ 2000) }
+    ensures short { OnOk result (length marks.now ≤ 8000) }
 {
     if marks.len() % E::WIDTH != 0 {
         return Err(Refusal::Shape);
@@ -150,9 +151,10 @@ pub fn check_marks<E: Estimator>(marks: &[f64]) -> Result<(), Refusal>
     Ok(())
 }
 
-// The tests of the marks of a run whose shape was tested, in order: refused with 6, 18 or 7.
+// The tests of the marks of a run after their shape, in order: refused with 6, 18 or 7.
 #[tactic(auto, unfolding(rule::specs::Order::first_failed, crate::specs::Marks::enough_tests, crate::specs::Marks::point, crate::specs::Marks::double, crate::specs::Marks::few))]
-pub fn check_enough<E: Estimator>(marks: &[f64]) -> Result<(), Refusal>
+fn check_enough<E: Estimator>(marks: &[f64]) -> Result<(), Refusal>
+    requires { length marks.now ≤ 8000 }
     ensures { refusal_in result ≡ first_failed (enough_tests E.family marks.now) }
 {
     if !all_in_range(marks) {
