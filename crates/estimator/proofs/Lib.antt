@@ -1,4 +1,5 @@
 pub mod Range
 pub mod View
 pub mod Tests
+pub mod Order
 pub mod Stride
