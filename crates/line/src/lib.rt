@@ -59,8 +59,8 @@ pub fn on_one_line(points: Points) -> bool
     (first..n).all(|i| on_baseline(p0, p1, points.at(i)))
 }
 
-// Whether the points of a side are collinear; refused with 5 or 6, in this order.
-#[tactic(auto, unfolding(rule::specs::Order::first_failed, rule::specs::Order::decided, crate::specs::Collinear::collinear_answer, estimator::specs::Marks::marks_tests, estimator::specs::Marks::shape, estimator::specs::Marks::point))]
+// Whether the points of a side are collinear; refused with 5, 6 or 18, in this order.
+#[tactic(auto, unfolding(rule::specs::Order::decided, crate::specs::Collinear::collinear_answer), using(rule::proofs::Order::decided_some, rule::proofs::Views::number_above_0))]
 pub fn points_are_collinear(points: Points) -> Result<bool, Refusal>
     ensures { answered result ≡ collinear_answer points.entry.marks.now points.entry.side }
 {
