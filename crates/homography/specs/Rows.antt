@@ -8,7 +8,7 @@ use Rattle.rule.specs.Order.{Test, first_failed, if_passed, room}
 use Rattle.rule.specs.Arith.{◌⊗◌}
 use Rattle.rule.specs.Lists.{for_each, replaced}
 use Rattle.numbers.specs.Constants.{zero', one}
-use Rattle.estimator.specs.Marks.{few, marks_tests}
+use Rattle.estimator.specs.Marks.{run_tests}
 use Rattle.sheet.specs.Marks.{marks_of, point_of, points}
 use Rattle.sheet.specs.declared.marks.Mark.{Mark}
 use Rattle.sheet.specs.declared.marks.Point.{Point}
@@ -56,7 +56,7 @@ spreads l = record { fails = no_spread (points Sheet l) || no_spread (points Pix
 
 unfoldable pub rows_tests : List Float → ℕ → List Test
 rows_tests l places =
-    marks_tests sheet l ++ (few sheet l ∷ sheet_line l ∷ pixel_line l ∷ spreads l ∷ room (18 * length (marks_of l)) places ∷ [])
+    run_tests sheet l ++ (sheet_line l ∷ pixel_line l ∷ spreads l ∷ room (18 * length (marks_of l)) places ∷ [])
 
 -- What the call answers, and what it leaves in the lent list.
 pub record Rowing (l entry : List Float) (answer : Result (Unit {0}) Refusal) (exit : List Float) : Type 0 where

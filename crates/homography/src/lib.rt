@@ -56,17 +56,13 @@ fn write_rows(marks: &[f64], sheet: Change, pixel: Change, rows: &mut [f64])
     }
 }
 
-// The rows of all marks into the lent list, the rest of which stays. Refused with 5, 6, 7, 13, 14, 12 or
-// 9, in this order; the lent list then stays as it is.
-#[tactic(auto, unfolding(rule::specs::Order::first_failed, rule::specs::Order::if_passed, rule::specs::Order::room, linalg::specs::Normalize::change_of, estimator::specs::Marks::marks_tests, estimator::specs::Marks::shape, estimator::specs::Marks::point, estimator::specs::Marks::few, crate::specs::Rows::rows_tests, crate::specs::Rows::sheet_line, crate::specs::Rows::pixel_line, crate::specs::Rows::spreads), using(sheet::specs::Owed::counts, crate::proofs::Outcomes::by_marks))]
+// The rows of all marks into the lent list, the rest of which stays. Refused with 5, 6, 18, 7, 13, 14,
+// 12 or 9, in this order; the lent list then stays as it is.
+#[tactic(auto, unfolding(rule::specs::Order::first_failed, rule::specs::Order::if_passed, rule::specs::Order::room, linalg::specs::Normalize::change_of, crate::specs::Rows::rows_tests, crate::specs::Rows::sheet_line, crate::specs::Rows::pixel_line, crate::specs::Rows::spreads), using(estimator::proofs::Order::run_first, estimator::proofs::Order::above_0, sheet::specs::Owed::counts))]
 pub fn dlt_rows(marks: &[f64], rows: &mut [f64]) -> Result<(), Refusal>
     ensures { Rowing marks.now rows.old result rows.new }
 {
-    estimator::check_marks::<Sheet>(marks)?;
-    let n = estimator::mark_count::<Sheet>(marks);
-    if n < 4 {
-        return Err(Refusal::Few);
-    }
+    estimator::check_run::<Sheet>(marks)?;
     let on_sheet = Points {
         marks,
         side: Side::Sheet,
@@ -83,7 +79,7 @@ pub fn dlt_rows(marks: &[f64], rows: &mut [f64]) -> Result<(), Refusal>
     }
     let sheet = change_of(on_sheet).ok_or(Refusal::Spread)?;
     let pixel = change_of(as_pixels).ok_or(Refusal::Spread)?;
-    if rows.len() < 18 * n {
+    if rows.len() < 18 * estimator::mark_count::<Sheet>(marks) {
         return Err(Refusal::Room);
     }
     write_rows(marks, sheet, pixel, rows);
