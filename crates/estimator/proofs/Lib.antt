@@ -3,3 +3,4 @@ pub mod View
 pub mod Tests
 pub mod Order
 pub mod Stride
+pub mod Run
