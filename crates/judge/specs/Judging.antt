@@ -7,7 +7,7 @@ use Rattle.rule.specs.Lists.{filled}
 use Rattle.rule.specs.Order.{Test, first_failed, if_passed}
 use Rattle.root.specs.Root.{root_of}
 use Rattle.estimator.specs.Family.{Family, distances_of, beyond_of, squares_of}
-use Rattle.estimator.specs.Marks.{shape, few, of_run, entries, marks_tests}
+use Rattle.estimator.specs.Marks.{shape, few, of_run, entries, run_tests}
 use Rattle.book.specs.Score as Score
 use Rattle.book.specs.Score.{Options, Judged, turned_down, Judgement, beyond_fit, Trial, unfitted, fitted, refitted, squares_in, rms_of, rms_in, count_under, stands_of, judge_trial}
 use Rattle.records.specs.Trial.{trial_record, trial_of}
@@ -35,11 +35,11 @@ call_of c = record { bytes = c.bytes.now; marks = c.marks.now; stops = c.stops.n
 module _ {E M K : Type 0} (f : Family E M K) where
   -- ---- the tests
 
-  -- 5 to 8, 1
+  -- 5, 6, 18, 7, 8, 1
   unfoldable pub call_tests : ℕ → Call → List Test
-  call_tests n c = of_run f n c.marks ∷ (marks_tests f c.marks ++ (few f c.marks ∷ entries f c.marks c.stops ∷ trial_record f.size c.bytes ∷ []))
+  call_tests n c = of_run f n c.marks ∷ (run_tests f c.marks ++ (entries f c.marks c.stops ∷ trial_record f.size c.bytes ∷ []))
 
-  -- The same but for 6, the one test that walks over the marks: for marks that were tested before.
+  -- The same but for 6 and 18, the tests that walk over the marks: for marks that were tested before.
   unfoldable pub tested_marks : ℕ → List Float → List ℕ → List Test
   tested_marks n l stops = of_run f n l ∷ shape f l ∷ few f l ∷ entries f l stops ∷ []
 

@@ -1,7 +1,7 @@
 // What a trial comes to by itself (document 01, 'Trials'), for any family: its tests but for the end of the
-// run and the range of the marks' numbers, and the judging of its record over the marks. Each model that is
-// asked for is measured once, and a fit again whose refit falls short, into a list that is lent; all the
-// rest is read from that list.
+// run, the range of the marks' numbers and marks that clash, and the judging of its record over the marks.
+// Each model that is asked for is measured once, and a fit again whose refit falls short, into a list that
+// is lent; all the rest is read from that list.
 #![tactic(auto)]
 
 mod run;
@@ -92,8 +92,8 @@ impl<M: Copy> Support<M> {
 }
 
 // Judges a trial of a run of `n` marks but for the root mean square, and leaves the squares of the
-// model that stands at the front of `squares`. The numbers of the marks are not tested: whoever calls has
-// done it, once for a run.
+// model that stands at the front of `squares`. Of the marks neither the numbers' range is tested nor whether
+// two clash: whoever calls has done it, once for a run.
 #[tactic(auto, using(crate::proofs::Ways::judge_in_turn, crate::proofs::Ways::beyond_in_turn, crate::proofs::Ways::squares_in_turn))]
 pub fn count_support<E: Estimator>(
     e: E,
@@ -118,7 +118,7 @@ pub fn count_support<E: Estimator>(
     Ok(run.judge_trial(trial, squares))
 }
 
-// Judges a trial of a run of `n` marks. The numbers of the marks are not tested either.
+// Judges a trial of a run of `n` marks. It tests of them no more than `count_support` does.
 #[tactic(auto, using(crate::proofs::Left::support_scored))]
 pub fn judge<E: Estimator>(
     e: E,
