@@ -156,8 +156,8 @@ fn write_points(points: Points, change: Change, lent: &mut [f64])
 }
 
 // The points of a list of marks, normalised, into the lent list, x, y and z by turns, and the matrix of
-// the change. Refused with 5, 6, 12 or 9, in this order; the lent list then stays as it is.
-#[tactic(auto, unfolding(rule::specs::Order::first_failed, rule::specs::Order::decided, rule::specs::Order::if_passed, rule::specs::Order::room, crate::specs::Normalize::change_of, crate::specs::Normalize::spread, crate::specs::Normalize::normalize_tests, crate::specs::Normalize::normalize_answer, estimator::specs::Marks::marks_tests, estimator::specs::Marks::shape, estimator::specs::Marks::point), using(form::proofs::Places::points_fifth))]
+// the change. Refused with 5, 6, 18, 12 or 9, in this order; the lent list then stays as it is.
+#[tactic(auto, unfolding(rule::specs::Order::first_failed, rule::specs::Order::decided, rule::specs::Order::if_passed, rule::specs::Order::room, crate::specs::Normalize::change_of, crate::specs::Normalize::spread, crate::specs::Normalize::normalize_tests, crate::specs::Normalize::normalize_answer), using(estimator::proofs::Order::marks_first, estimator::proofs::Order::above_0, form::proofs::Places::points_fifth))]
 pub fn normalize_points_3d(marks: &[f64], lent: &mut [f64]) -> Result<Normalized, Refusal>
     ensures { Normalizing marks.now lent.old result lent.new }
 {
