@@ -7,7 +7,7 @@ use Rattle.rule.specs.Order.{Test, first_failed, if_passed, room}
 use Rattle.rule.specs.Arith.{◌⊗◌}
 use Rattle.rule.specs.Lists.{for_each, replaced}
 use Rattle.numbers.specs.Constants.{zero', one}
-use Rattle.estimator.specs.Marks.{few, marks_tests}
+use Rattle.estimator.specs.Marks.{run_tests}
 use Rattle.form.specs.Marks.{marks_of, point_of, pixel_of, points}
 use Rattle.form.specs.Forms.{form}
 use Rattle.form.specs.declared.marks.Mark.{Mark}
@@ -43,7 +43,7 @@ rows_list c l entry = for_each (mark_rows c) (marks_of l) ++ drop (24 * length (
 -- ---- the entry
 
 unfoldable pub rows_tests : List Float → ℕ → List Test
-rows_tests l places = marks_tests form l ++ (few form l ∷ spread (points l) ∷ room (24 * length (marks_of l)) places ∷ [])
+rows_tests l places = run_tests form l ++ (spread (points l) ∷ room (24 * length (marks_of l)) places ∷ [])
 
 -- What the call answers, and what it leaves in the lent list.
 pub record Rowing (l entry : List Float) (answer : Result (Unit {0}) Refusal) (exit : List Float) : Type 0 where

@@ -58,19 +58,15 @@ fn write_rows(marks: &[f64], change: Change, rows: &mut [f64])
     }
 }
 
-// The rows of all marks into the lent list, the rest of which stays. Refused with 5, 6, 7, 12 or 9, in
-// this order; the lent list then stays as it is.
-#[tactic(auto, unfolding(rule::specs::Order::first_failed, rule::specs::Order::if_passed, rule::specs::Order::room, linalg_3d::specs::Normalize::change_of, linalg_3d::specs::Normalize::spread, estimator::specs::Marks::marks_tests, estimator::specs::Marks::shape, estimator::specs::Marks::point, estimator::specs::Marks::few, crate::specs::Rows::rows_tests), using(form::specs::Owed::counts))]
+// The rows of all marks into the lent list, the rest of which stays. Refused with 5, 6, 18, 7, 12 or 9,
+// in this order; the lent list then stays as it is.
+#[tactic(auto, unfolding(rule::specs::Order::first_failed, rule::specs::Order::if_passed, rule::specs::Order::room, linalg_3d::specs::Normalize::change_of, linalg_3d::specs::Normalize::spread, crate::specs::Rows::rows_tests), using(estimator::proofs::Order::run_first, estimator::proofs::Order::above_0, form::specs::Owed::counts))]
 pub fn dlt_rows(marks: &[f64], rows: &mut [f64]) -> Result<(), Refusal>
     ensures { Rowing marks.now rows.old result rows.new }
 {
-    estimator::check_marks::<Camera>(marks)?;
-    let n = estimator::mark_count::<Camera>(marks);
-    if n < 6 {
-        return Err(Refusal::Few);
-    }
+    estimator::check_run::<Camera>(marks)?;
     let change = change_of(Points { marks }).ok_or(Refusal::Spread)?;
-    if rows.len() < 24 * n {
+    if rows.len() < 24 * estimator::mark_count::<Camera>(marks) {
         return Err(Refusal::Room);
     }
     write_rows(marks, change, rows);
