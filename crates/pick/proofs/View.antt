@@ -2,12 +2,14 @@
 -- out besides, and each answer that a trial's contract asks for can be had. Assumes nothing.
 use mathlib.Core.Path.{◌≡◌, refl, sym, ap, ◌∙◌}
 use mathlib.Core.Logic.{◌⊎◌, inl, inr}
-use mathlib.Core.Bool.{Bool, true, false, cond}
+use mathlib.Core.Bool.{Bool, true, false, ◌&&◌, ◌||◌, cond}
 use mathlib.Core.List.{List, [], ◌∷◌}
 use Prim.Native.Nat.{ℕ, zero, suc}
 use native.Mathlib.Omega.{arith}
-use lib.Dec.{ltb}
+use borrow.Author.Tests.{eqb-true}
+use lib.Dec.{T, ltb, eqb}
 use lib.Ieee.{Float}
+use lib.Ieee.Fits.{and_l, and_r}
 use Rattle.std.specs.Prelude.{Option, Some, None, Result, Ok, Err}
 use Rattle.rule.specs.declared.Refusal.{Refusal}
 use Rattle.rule.specs.declared.Refusal.TheVariants as Refusals
@@ -16,7 +18,7 @@ use Rattle.rule.specs.Answer.{Answer as Answering, refused, gives, told, answere
 use Rattle.rule.specs.Order.{Test, first_failed, if_passed}
 use Rattle.rule.proofs.Views.{told_apart, told_one, answered_one}
 use Rattle.estimator.specs.Family.{Family}
-use Rattle.estimator.specs.Marks.{shape, point, few, of_run, entries, marks_tests}
+use Rattle.estimator.specs.Marks.{shape, point, double, few, of_run, entries, enough_tests, run_tests}
 use Rattle.book.specs.Score as Score
 use Rattle.book.specs.Score.{Judged, turned_down, Trial, unfitted, fitted, refitted, judged_by, judge_trial}
 use Rattle.book.specs.Book as Book
@@ -173,28 +175,44 @@ module _ {M : Type 0} (o : Score.Options) (b : Book.Book M) where
       go true = (Outcomes.Refused Refusals.Ended, refl)
       go false = entered_had j n
 
--- the numbers of a call's tests
-record Fails (ts : List Test) : Type 0 where
-  by : (first_failed ts ≡ 0) ⊎ ((e : Refusal) × (number_of e ≡ first_failed ts))
+-- the refusals that a call's tests give, in any order
+refusals : List Refusal
+refusals = Refusals.Record ∷ Refusals.Shape ∷ Refusals.Point ∷ Refusals.Few ∷ Refusals.Stops ∷ Refusals.Double ∷ []
 
-one_more : {t : Test} {ts : List Test} (e : Refusal) → number_of e ≡ t.number → Fails ts → Fails (t ∷ ts)
-unfolding first_failed
-one_more {t} {ts} e n rest = record { by = go t.fails }
+one_of : List Refusal → ℕ → Bool
+one_of [] k = false
+one_of (e ∷ es) k = eqb (number_of e) k || one_of es k
+
+refusal_of : (es : List Refusal) (k : ℕ) → T (one_of es k) → (e : Refusal) × (number_of e ≡ k)
+unfolding one_of
+refusal_of [] k h = absurd h
+refusal_of (e ∷ es) k h = go (λ r. refusal_of es k r) (eqb (number_of e) k) refl h
   where
-    go : (b : Bool) → (cond b t.number (first_failed ts) ≡ 0) ⊎ ((f : Refusal) × (number_of f ≡ cond b t.number (first_failed ts)))
-    go true = inr (e, n)
-    go false = rest.by
+    go : (T (one_of es k) → (d : Refusal) × (number_of d ≡ k)) → (b : Bool) → eqb (number_of e) k ≡ b → T (b || one_of es k) → (d : Refusal) × (number_of d ≡ k)
+    go others true same g = (e, eqb-true (number_of e) k same)
+    go others false same g = others g
 
-none_fails : Fails []
-unfolding first_failed
-none_fails = record { by = inl refl }
+-- each test's number is one of theirs
+all_of : List Test → Bool
+all_of [] = true
+all_of (t ∷ ts) = one_of refusals t.number && all_of ts
 
-call_fails : {E M K : Type 0} (f : Family E M K) (n : ℕ) (c : Call) → Fails (call_tests f n c)
-unfolding call_tests marks_tests of_run shape point few entries trial_record
-call_fails f n c =
-    one_more Refusals.Shape refl
-    (one_more Refusals.Shape refl
-    (one_more Refusals.Point refl (one_more Refusals.Few refl (one_more Refusals.Stops refl (one_more Refusals.Record refl none_fails)))))
+-- so the number of the first that fails is
+abbrev Fails : ℕ → Type 0
+Fails k = (k ≡ 0) ⊎ ((e : Refusal) × (number_of e ≡ k))
+
+fails_of : (ts : List Test) → T (all_of ts) → Fails (first_failed ts)
+unfolding first_failed all_of
+fails_of [] h = inl refl
+fails_of (t ∷ ts) h = go t.fails (fails_of ts (and_r (one_of refusals t.number) (all_of ts) h))
+  where
+    go : (b : Bool) → Fails (first_failed ts) → Fails (cond b t.number (first_failed ts))
+    go true others = inr (refusal_of refusals t.number (and_l (one_of refusals t.number) (all_of ts) h))
+    go false others = others
+
+call_fails : {E M K : Type 0} (f : Family E M K) (n : ℕ) (c : Call) → Fails (first_failed (call_tests f n c))
+unfolding all_of one_of refusals call_tests run_tests enough_tests of_run shape point double few entries trial_record
+call_fails f n c = fails_of (call_tests f n c) tt
 
 -- a record that is read is worth no refusal
 module _ {M : Type 0} (o : Score.Options) (distances : M → List Float) (stops : List ℕ) where
@@ -214,9 +232,9 @@ module _ {M : Type 0} (o : Score.Options) (distances : M → List Float) (stops 
 
 judged_nameable : {E M K : Type 0} (f : Family E M K) (e : E) (o : RansacOptions) (n : ℕ) (c : Call) → Nameable (judge_of f e o n c)
 unfolding judge_of byTests worth if_passed Nameable
-judged_nameable f e o n c = go (first_failed (call_tests f n c)) (call_fails f n c).by
+judged_nameable f e o n c = go (first_failed (call_tests f n c)) (call_fails f n c)
   where
-    go : (k : ℕ) → (k ≡ 0) ⊎ ((e : Refusal) × (number_of e ≡ k)) → Nameable (if_passed k (worth f e o c) (turned_down k))
+    go : (k : ℕ) → Fails k → Nameable (if_passed k (worth f e o c) (turned_down k))
     go zero x = by_trial (rule_of o) _ c.stops (trial_of f c.bytes)
     go (suc k) (inl z) = absurd (omega (arith, z))
     go (suc k) (inr x) = x

@@ -1,6 +1,6 @@
 -- What the indices' order says of the lists where it passes: there is a place for each mark, and there are at most 2,000. So all indices are written.
 -- Assumes nothing.
-use mathlib.Core.Path.{◌≡◌, sym}
+use mathlib.Core.Path.{◌≡◌, sym, ◌∙◌}
 use mathlib.Core.List.{List, [], ◌++◌}
 use Prim.Native.Nat.{ℕ, ◌≤◌}
 use native.Mathlib.Omega.{arith}
@@ -10,9 +10,10 @@ use lib.Ieee.{Float}
 use Rattle.std.proofs.lemmas.Grind.{common_steps}
 use Rattle.rule.specs.Answer.{gives}
 use Rattle.rule.specs.Order.{first_failed, decided, if_passed, room}
-use Rattle.rule.proofs.Order.{first_passed}
+use Rattle.rule.proofs.Order.{first_passed, all_passed, none_failed}
 use Rattle.estimator.specs.Family.{Family, distances_of}
-use Rattle.estimator.specs.Marks.{shape, point, few, of_run, marks_tests}
+use Rattle.estimator.specs.Marks.{of_run, run_tests}
+use Rattle.estimator.proofs.Run.{run_numbered}
 use Rattle.measure.proofs.Squares.{distances-count}
 use Rattle.score.specs.Places.{indices_in, indexed, index_count}
 use Rattle.score.proofs.Walk.{all_counted, all_indexed}
@@ -29,13 +30,11 @@ module _ {E M K : Type 0} (f : Family E M K) (e : E) (n : ℕ) (ratio thresh : F
     indices = indices_in thresh ds
 
     roomy : (length ds ≤ length entry) × (length ds ≤ 2000)
-    unfolding marks_order marks_tests of_run shape point few room
+    unfolding marks_order of_run room
     roomy =
         let a = first_passed (of_run f n l) _ tt (sym passed) in
-        let b = first_passed (shape f l) _ tt a.1 in
-        let c = first_passed (point l) _ tt b.1 in
-        let d = first_passed (few f l) _ tt c.1 in
-        let g = first_passed (room (length (f.marks_of l)) (length entry)) [] tt d.1 in
+        let b = all_passed (run_tests f l) _ (run_numbered f l) (none_failed (run_tests f l) _ a.1) ∙ a.1 in
+        let g = first_passed (room (length (f.marks_of l)) (length entry)) [] tt b in
         let place : length (f.marks_of l) ≤ length entry = ltb-false (length entry) (length (f.marks_of l)) g.0 in
         let many = distances-count f e ratio l h in
         (omega (arith, many, place), omega (arith, many, most))

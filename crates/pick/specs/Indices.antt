@@ -1,19 +1,19 @@
--- Document 01, the winner indices: order 11, 5, 6, 7, 9 (n places). Places past the last written stay.
+-- Document 01, the winner indices: order 11, 5, 6, 18 (document 02, order 6), 7, 9 (n places). Places past the last written stay.
 use Rattle.std.specs.Prelude.{List, [], ◌∷◌, ◌++◌, ℕ, length, drop, Float}
 use Rattle.rule.specs.Refusal.{NONE}
 use Rattle.rule.specs.Answer.{Answer, refused}
 use Rattle.rule.specs.Order.{Test, first_failed, decided, if_passed, room}
 use Rattle.estimator.specs.Family.{Family, distances_of}
-use Rattle.estimator.specs.Marks.{few, of_run, marks_tests}
+use Rattle.estimator.specs.Marks.{of_run, run_tests}
 use Rattle.book.specs.Book.{Held, none, held}
 use Rattle.records.specs.declared.options.RansacOptions.{RansacOptions}
 use Rattle.score.specs.Places.{indices_in}
 use Rattle.pick.specs.Run.{Run}
 
 module _ {E M K : Type 0} (f : Family E M K) where
-  -- 5, 6, 7, 9
+  -- 5, 6, 18, 7, 9
   unfoldable pub marks_order : ℕ → List Float → (places : ℕ) → List Test
-  marks_order n marks places = of_run f n marks ∷ (marks_tests f marks ++ (few f marks ∷ room (length (f.marks_of marks)) places ∷ []))
+  marks_order n marks places = of_run f n marks ∷ (run_tests f marks ++ (room (length (f.marks_of marks)) places ∷ []))
 
   -- ---- under a candidate: how many indices there are, and the lent list after the call
 

@@ -1,4 +1,5 @@
--- Document 01, a trial: order 10, 5 to 8, 1, then what the book makes of it; and document 02, order 2, the number beyond. For all states, whoever made them.
+-- Document 01, a trial: order 10, 5, 6, 18 (document 02, order 6), 7, 8, 1, then what the book makes of it; and order 2, the number beyond. For all states,
+-- whoever made them.
 use Rattle.std.specs.Prelude.{cond, List, ℕ, suc, Float, Result, Ok, Err}
 use Rattle.rule.specs.declared.Refusal.{Refusal}
 use Rattle.rule.specs.Refusal.{number_of}
@@ -34,7 +35,7 @@ tried_with r j = answer_of (tried_in r j.worth) (cond (is_closed r.book) 0 j.bey
 unfoldable pub trial_answer : {E M K : Type 0} → Family E M K → Run E M → Call → Answer E M
 trial_answer f r c = tried_with r (judgement_of f r.estimator r.options r.n c)
 
--- the same without test 6, for marks that were tested before
+-- the same without tests 6 and 18, for marks that were tested before
 unfoldable pub step_answer : {E M K : Type 0} → Family E M K → Run E M → Call → Answer E M
 step_answer f r c = tried_with r (judgement_tested f r.estimator r.options r.n c)
 

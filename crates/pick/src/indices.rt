@@ -11,7 +11,7 @@ use estimator::Estimator;
 use rule::Refusal;
 
 // The tests after 11, in order.
-#[tactic(auto, using(crate::proofs::Order::marks_first, crate::proofs::Order::above_0), unfolding(rule::specs::Order::first_failed, rule::specs::Order::room, crate::specs::Indices::marks_order, estimator::specs::Marks::of_run, estimator::specs::Marks::few))]
+#[tactic(auto, using(estimator::proofs::Run::run_first, crate::proofs::Order::above_0), unfolding(rule::specs::Order::first_failed, rule::specs::Order::room, crate::specs::Indices::marks_order, estimator::specs::Marks::of_run))]
 fn check_order<E: Estimator>(n: usize, marks: &[f64], places: usize) -> Result<(), Refusal>
     ensures refusal_value { refusal_in result ≡ first_failed (marks_order E.family n marks.now places) }
     ensures few_enough { OnOk result (length (E.family.marks_of marks.now) ≤ 2000) }
@@ -19,10 +19,7 @@ fn check_order<E: Estimator>(n: usize, marks: &[f64], places: usize) -> Result<(
     if estimator::mark_count::<E>(marks) != n {
         return Err(Refusal::Shape);
     }
-    estimator::check_marks::<E>(marks)?;
-    if n < E::MIN_SAMPLES {
-        return Err(Refusal::Few);
-    }
+    estimator::check_run::<E>(marks)?;
     if places < n {
         return Err(Refusal::Room);
     }
@@ -30,7 +27,7 @@ fn check_order<E: Estimator>(n: usize, marks: &[f64], places: usize) -> Result<(
 }
 
 // Writes the places of the marks within the threshold under the winner to the front of `indices`,
-// ascending, and answers how many; refused with 11, 5, 6, 7 or 9, in this order, and then nothing is
+// ascending, and answers how many; refused with 11, 5, 6, 18, 7 or 9, in this order, and then nothing is
 // written. (How many, beside a list that is lent: document 01's form of an index list.)
 #[tactic(auto, using(crate::proofs::Written::count_written, crate::proofs::Written::all_written), unfolding(rule::specs::Order::decided, rule::specs::Order::if_passed, crate::specs::Indices::indices_answer, crate::specs::Indices::indices_after, crate::specs::Indices::winner_answer, crate::specs::Indices::winner_after, crate::specs::Indices::under_answer, crate::specs::Indices::under_after))]
 pub fn winner_indices<E: Estimator>(

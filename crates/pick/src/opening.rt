@@ -1,5 +1,6 @@
-// The opening of a run (document 01, 'Options' and 'Refusals', and document 02, orders 3 and 5): tests 1 to
-// 4, 16, 5 to 8, and what the family asks. (Marks and stop entries are two lists, as document 01 hands them to an opening.)
+// The opening of a run (document 01, 'Options' and 'Refusals', and document 02, orders 3, 5 and 6): tests 1
+// to 4, 16, 5, 6, 18, 7, 8, and what the family asks. (Marks and stop entries are two lists, as document 01
+// hands them to an opening.)
 ghost use Rattle.std.specs.Prelude.{◌≡◌};
 ghost use Rattle.rule.specs.Answer.{told, refusal_in};
 ghost use Rattle.rule.specs.Order.{first_failed};
@@ -33,7 +34,7 @@ pub fn fresh_run<E: Copy, M: Copy>(e: E, o: RansacOptions, n: usize) -> State<E,
 }
 
 // The tests of an opening, in order.
-#[tactic(auto, using(crate::proofs::Order::options_first, crate::proofs::Order::marks_first, crate::proofs::Order::above_0), unfolding(rule::specs::Order::first_failed, crate::specs::Opening::opening_tests, estimator::specs::Marks::few, estimator::specs::Marks::entries))]
+#[tactic(auto, using(crate::proofs::Order::options_first, estimator::proofs::Run::run_first, crate::proofs::Order::above_0), unfolding(rule::specs::Order::first_failed, crate::specs::Opening::opening_tests, estimator::specs::Marks::entries))]
 fn check_order<E: Estimator>(
     e: E,
     o: RansacOptions,
@@ -43,18 +44,14 @@ fn check_order<E: Estimator>(
     ensures { refusal_in result ≡ first_failed (opening_tests E.family e o marks.now stops.now) }
 {
     records::validate(o)?;
-    estimator::check_marks::<E>(marks)?;
-    let n = estimator::mark_count::<E>(marks);
-    if n < E::MIN_SAMPLES {
-        return Err(Refusal::Few);
-    }
-    if stops.len() != n + 1 {
+    estimator::check_run::<E>(marks)?;
+    if stops.len() != estimator::mark_count::<E>(marks) + 1 {
         return Err(Refusal::Stops);
     }
     e.validate()
 }
 
-// Opens a run; refused with 2, 3, 4, 16, 5, 6, 7 or 8, in this order, and then by what the family asks.
+// Opens a run; refused with 2, 3, 4, 16, 5, 6, 18, 7 or 8, in this order, and then by what the family asks.
 #[tactic(auto, using(crate::proofs::Order::refuses), unfolding(rule::specs::Order::decided, crate::specs::Opening::opening_answer))]
 pub fn open<E: Estimator>(
     e: E,
