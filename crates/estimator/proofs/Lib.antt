@@ -4,3 +4,4 @@ pub mod Tests
 pub mod Order
 pub mod Stride
 pub mod Run
+pub mod Alone

@@ -1,4 +1,4 @@
--- The marks' tests in front of an order's others, as one: where they pass, the others decide; else they do. Assumes nothing.
+-- The tests of every list of marks in front of an order's others, as one: where they pass, the others decide; else they do. Assumes nothing.
 use mathlib.Core.Path.{◌≡◌}
 use mathlib.Core.Bool.{false, cond}
 use mathlib.Core.List.{List, ◌++◌}
@@ -11,7 +11,7 @@ use Rattle.rule.specs.declared.Refusal.{Refusal}
 use Rattle.rule.proofs.Order.{front, numbered}
 use Rattle.rule.proofs.Views.{number_above_0}
 use Rattle.estimator.specs.Family.{Family}
-use Rattle.estimator.specs.Marks.{shape, point, double, few, marks_tests, enough_tests, run_tests}
+use Rattle.estimator.specs.Marks.{shape, point, double, marks_tests}
 
 -- a refusal's number is not 0
 pub above_0 : (e : Refusal) → eqb (number_of e) 0 ≡ false
@@ -21,11 +21,3 @@ module _ {E M K : Type 0} (f : Family E M K) (l : List Float) (rest : List Test)
   pub marks_first : first_failed (marks_tests f l ++ rest) ≡ cond (eqb (first_failed (marks_tests f l)) 0) (first_failed rest) (first_failed (marks_tests f l))
   unfolding numbered marks_tests shape point double
   marks_first = front (marks_tests f l) rest tt
-
-  pub enough_first : first_failed (enough_tests f l ++ rest) ≡ cond (eqb (first_failed (enough_tests f l)) 0) (first_failed rest) (first_failed (enough_tests f l))
-  unfolding numbered enough_tests point double few
-  enough_first = front (enough_tests f l) rest tt
-
-  pub run_first : first_failed (run_tests f l ++ rest) ≡ cond (eqb (first_failed (run_tests f l)) 0) (first_failed rest) (first_failed (run_tests f l))
-  unfolding numbered run_tests enough_tests shape point double few
-  run_first = front (run_tests f l) rest tt

@@ -1,6 +1,6 @@
 -- The tests of a run's marks as one: in front of others, and what they say where none of them failed. So who asks them need not know their order. Assumes
 -- nothing.
-use mathlib.Core.Path.{◌≡◌, sym, ◌∙◌}
+use mathlib.Core.Path.{◌≡◌}
 use mathlib.Core.Bool.{false, cond}
 use mathlib.Core.List.{List, ◌++◌}
 use lib.Dec.{T, eqb}
