@@ -13,11 +13,12 @@ use Rattle.rule.specs.Refusal.{RECORD, SHAPE, number_of}
 use Rattle.rule.specs.Answer.{Answer, refused, gives}
 use Rattle.rule.specs.Order.{Test, first_failed, room}
 use Rattle.rule.specs.Lists.{filled}
-use Rattle.rule.proofs.Order.{front, passes, numbered, first_passed}
+use Rattle.rule.proofs.Order.{front, numbered, first_passed, all_passed, none_failed}
 use Rattle.rule.proofs.Lists.{filled_front}
 use Rattle.rule.proofs.Views.{number_above_0}
-use Rattle.estimator.specs.Marks.{shape, point, few, marks_tests}
+use Rattle.estimator.specs.Marks.{enough_tests, run_tests as tests_of_marks}
 use Rattle.estimator.proofs.Tests.{shaped}
+use Rattle.estimator.proofs.Run.{enough_numbered, enough_left}
 use Rattle.sheet.specs.Marks.{marks_of}
 use Rattle.sheet.specs.Sheets.{sheet}
 use Rattle.sheet.specs.Owed.{counts}
@@ -85,38 +86,38 @@ module _ (f : Files) (winner indices : ℕ) where
       ∙ ap (cond (options_record f.options).fails (refused RECORD)) (after_both (options_tests o) (mark_bytes f.marks ∷ rest) (options_above_0 o) a
       ∙ ap (after_tests (first_failed (options_tests o))) (after_both (mark_bytes f.marks ∷ []) rest tt a ∙ after_one (mark_bytes f.marks).fails SHAPE _ (omega arith)))
 
--- ---- what the later tests say where they all pass
+-- ---- the later tests: of marks whose length was tested
 
-point_alone : (l : List Float) → (point l).fails ≡ false → 0 ≡ first_failed (point l ∷ [])
-unfolding first_failed
-point_alone l h = rw h
+pub enough_of_run : (l : List Float) → length l % 4 ≡ 0 → length l ≤ 8000 → first_failed (enough_tests sheet l) ≡ first_failed (tests_of_marks sheet l)
+enough_of_run l whole short = enough_left sheet l (shaped sheet l whole short)
+
+-- what they say where they all pass
 
 record Passed (l : List Float) (table winner indices : ℕ) : Type 0 where
-  within : (point l).fails ≡ false
+  marks : first_failed (enough_tests sheet l) ≡ 0
   entries : table ≡ 4 * suc (length (marks_of l))
   winner-room : 88 ≤ winner
   index_room : 4 * length (marks_of l) ≤ indices
 
 module _ (l : List Float) (table trials winner indices : ℕ) (passed : 0 ≡ first_failed (later_tests l (length (marks_of l)) table trials winner indices)) where
   all_passed_is : Passed l table winner indices
-  unfolding later_tests point few stop_bytes trial_bytes room
+  unfolding later_tests stop_bytes trial_bytes room
   all_passed_is =
-      let a = first_passed (point l) _ tt (sym passed) in
-      let b = first_passed (few sheet l) _ tt a.1 in
-      let c = first_passed (stop_bytes (length (marks_of l)) table) _ tt b.1 in
+      let a = none_failed (enough_tests sheet l) _ (sym passed) in
+      let b = all_passed (enough_tests sheet l) _ (enough_numbered sheet l) a ∙ sym passed in
+      let c = first_passed (stop_bytes (length (marks_of l)) table) _ tt b in
       let d = first_passed (trial_bytes trials) _ tt c.1 in
       let e = first_passed (room 88 winner) _ tt d.1 in
       let f = first_passed (room (4 * length (marks_of l)) indices) [] tt e.1 in
       record {
-        within = a.0;
+        marks = a;
         entries = eqb-true table (4 * suc (length (marks_of l))) (not-false (eqb table (4 * suc (length (marks_of l)))) c.0);
         winner-room = ltb-false winner 88 e.0;
         index_room = ltb-false indices (4 * length (marks_of l)) f.0;
       }
 
-  pub marks_tested : length l % 4 ≡ 0 → length l ≤ 8000 → 0 ≡ first_failed (marks_tests sheet l)
-  unfolding marks_tests
-  marks_tested whole short = point_alone l all_passed_is.within ∙ passes (shape sheet l) (point l ∷ []) (shaped sheet l whole short)
+  pub marks_tested : length l % 4 ≡ 0 → length l ≤ 8000 → 0 ≡ first_failed (tests_of_marks sheet l)
+  marks_tested whole short = sym all_passed_is.marks ∙ enough_of_run l whole short
 
   pub stops_fit : table ≡ 4 * suc (length (marks_of l))
   stops_fit = all_passed_is.entries

@@ -4,7 +4,7 @@ use mathlib.Core.Bool.{Bool, true, false, cond}
 use mathlib.Core.List.{List, [], ◌∷◌}
 use Prim.Native.Nat.{ℕ, ◌+◌, ◌/◌, ◌≤◌, ◌<◌}
 use native.Mathlib.Numerals.{add-one}
-use borrow.Author.Tests.{eq-eqb, le-leb, lt-leb}
+use borrow.Author.Tests.{le-leb, lt-leb}
 use lib.ListN.{length, drop, get_or, length-map, get_or-map, drop_of_length-le}
 use lib.Seq.{drop-cons}
 use lib.Ieee.{Float}
@@ -12,7 +12,7 @@ use Rattle.std.specs.Prelude.{Ok}
 use Rattle.std.specs.Simd.{first_chunks}
 use Rattle.rule.specs.Answer.{Answer, refused, gives}
 use Rattle.rule.specs.Order.{first_failed}
-use Rattle.estimator.specs.Marks.{marks_tests}
+use Rattle.estimator.specs.Marks.{run_tests}
 use Rattle.sheet.specs.Marks.{marks_of}
 use Rattle.sheet.specs.Sheets.{sheet, no_camera}
 use Rattle.sheet.specs.declared.model.Model.{Model}
@@ -116,7 +116,7 @@ module _ (o : RansacOptions) (l : List Float) (table : List ℕ) (parts : List (
     pub going_out : length parts ≤ i → view_ran (Ok s) ≡ whole
     going_out h = run_out (rule_of o) (book_of s) (drop i js) (let past : length js ≤ i = rw js_count h in drop_of_length-le js past) ∙ (facts_in g).owed
 
-    module _ (valid : 0 ≡ first_failed (options_tests o)) (tested : 0 ≡ first_failed (marks_tests sheet l)) (early : s.counts.read < s.counts.bound) (here : i < length parts) where
+    module _ (valid : 0 ≡ first_failed (options_tests o)) (tested : 0 ≡ first_failed (run_tests sheet l)) (early : s.counts.read < s.counts.bound) (here : i < length parts) where
       abbrev bytes : List ℕ
       bytes = get_or parts i []
 
@@ -138,7 +138,7 @@ module _ (o : RansacOptions) (l : List Float) (table : List ℕ) (parts : List (
       tried_is =
           ap (λ (p : RansacOptions). tried (rule_of p) (book_of s) (judge_tested sheet no_camera p s.n call)) (facts_in g).options
           ∙ ap (λ (k : ℕ). tried (rule_of o) (book_of s) (judge_tested sheet no_camera o k call)) (facts_in g).marks
-          ∙ ap (λ (j : Judged Model). tried (rule_of o) (book_of s) j) (judged_alike sheet no_camera o call _ _ (tests_alike sheet no_camera o n call (eq-eqb n n refl) (sym tested)))
+          ∙ ap (λ (j : Judged Model). tried (rule_of o) (book_of s) j) (judged_alike sheet no_camera o call _ _ (tests_alike sheet no_camera o n call (sym tested)))
           ∙ tried-called (rule_of o) (few-iters o (sym valid)) (book_of s) (judged bytes) (facts_in g).counts
           ∙ called_is
 

@@ -7,7 +7,7 @@
 ghost use Rattle.std.specs.Prelude.{◌≡◌, ◌*◌, ◌%◌, ◌≤◌, length};
 ghost use Rattle.rule.specs.Answer.{told, refusal_in};
 ghost use Rattle.rule.specs.Order.{first_failed};
-ghost use Rattle.estimator.specs.Marks.{marks_tests};
+ghost use Rattle.estimator.specs.Marks.{run_tests};
 ghost use Rattle.sheet.specs.Marks.{marks_of};
 ghost use Rattle.sheet.specs.Sheets.{sheet};
 ghost use Rattle.records.specs.Options.{options_of, options_tests};
@@ -31,7 +31,7 @@ fn read_trials(
     trials: &[u8],
 ) -> Result<State<Sheet, Model>, Refusal>
     requires options_pass { 0 ≡ first_failed (options_tests o) }
-    requires marks_pass { 0 ≡ first_failed (marks_tests sheet marks.now) }
+    requires marks_pass { 0 ≡ first_failed (run_tests sheet marks.now) }
     ensures { view_ran result ≡ stop_of o (length (marks_of marks.now)) marks.now stops.now (records_in trials.now) }
 {
     // no heap, so there is a place for each mark of the longest run
@@ -63,8 +63,9 @@ fn put_winner(out: &mut [u8], w: Winner<Model>)
     fields::write_all(&w.model.numbers(), &mut out[16..88]);
 }
 
-// The tests after the marks' length, in order: refused with 6, 7, 8, 1 or 9.
-#[tactic(auto, unfolding(rule::specs::Order::first_failed, rule::specs::Order::room, crate::specs::Whole::later_tests, crate::specs::Whole::stop_bytes, crate::specs::Whole::trial_bytes, estimator::specs::Marks::point, estimator::specs::Marks::few), using(sheet::specs::Owed::counts))]
+// The tests after the marks' length, in order: refused with 6, 18, 7, 8, 1 or 9. (The marks' own test looks
+// at their length again, and passes it.)
+#[tactic(auto, unfolding(rule::specs::Order::first_failed, rule::specs::Order::room, crate::specs::Whole::later_tests, crate::specs::Whole::stop_bytes, crate::specs::Whole::trial_bytes), using(sheet::specs::Owed::counts, estimator::proofs::Run::enough_first, pick::proofs::Order::above_0, crate::proofs::Chain::enough_of_run))]
 fn check_later(
     numbers: &[f64],
     stops: &[u8],
@@ -72,15 +73,12 @@ fn check_later(
     winner: &[u8],
     indices: &[u8],
 ) -> Result<(), Refusal>
+    requires numbers_len { length numbers.now % 4 ≡ 0 }
+    requires numbers_len_bound { length numbers.now ≤ 8000 }
     ensures { refusal_in result ≡ first_failed (later_tests numbers.now (length (marks_of numbers.now)) (length stops.now) (length trials.now) (length winner.now) (length indices.now)) }
 {
-    if !estimator::all_in_range(numbers) {
-        return Err(Refusal::Point);
-    }
+    estimator::check_run::<Sheet>(numbers)?;
     let n = estimator::mark_count::<Sheet>(numbers);
-    if n < 4 {
-        return Err(Refusal::Few);
-    }
     if stops.len() != 4 * (n + 1) {
         return Err(Refusal::Stops);
     }
