@@ -9,13 +9,12 @@ use lib.ListN.{length, get_or}
 use lib.Ieee.{Float, nan, binary64, fits, le, of_bits, to_bits}
 use Rattle.rule.specs.Order.{first_failed}
 use Rattle.rule.specs.Lists.{every, for_each}
-use Rattle.rule.proofs.Order.{passes, numbered, first_passed}
+use Rattle.rule.proofs.Order.{numbered, first_passed}
 use Rattle.rule.proofs.Lists.{places_at, one_by_one}
 use Rattle.numbers.specs.Constants.{farthest}
 use Rattle.numbers.specs.Finite.{abs_of, is_finite, all_finite, within}
-use Rattle.estimator.specs.Marks.{shape, point, all_within, marks_tests}
+use Rattle.estimator.specs.Marks.{point, all_within}
 use Rattle.sheet.specs.Marks.{mark_numbers}
-use Rattle.sheet.specs.Sheets.{sheet}
 use Rattle.sheet.specs.declared.marks.Mark.{Mark}
 use Rattle.fields.specs.Fields.{double_bytes}
 use Rattle.fields.specs.Packing.{size_of, packed}
@@ -38,11 +37,6 @@ unfolding MarkRepresentable mark_numbers
 mark_held m p q r s = rw (p, q, r, s) tt
 
 module _ (m : Mark) where
-  -- a list of this mark alone has the right shape
-  one_mark : first_failed (marks_tests sheet (mark_numbers m)) ≡ first_failed (point (mark_numbers m) ∷ [])
-  unfolding marks_tests shape mark_numbers
-  one_mark = sym (passes (shape sheet (mark_numbers m)) (point (mark_numbers m) ∷ []) refl)
-
   pub packs : record_of mark_format m ≡ for_each double_bytes (mark_numbers m)
   unfolding record_of mark_format mark_layout packed double_bytes for_each mark_numbers
   packs = refl
@@ -52,11 +46,11 @@ module _ (m : Mark) where
   above = tt
 
   module _ (entry : List ℕ) (p : fits binary64 m.x ≡ true) (q : fits binary64 m.y ≡ true) (r : fits binary64 m.u ≡ true) (s : fits binary64 m.v ≡ true) where
-    here : first_failed (mark_format.asks m ++ mark_format.tests (mark_format.fields m)) ≡ first_failed (marks_tests sheet (mark_numbers m))
+    here : first_failed (mark_format.asks m ++ mark_format.tests (mark_format.fields m)) ≡ first_failed (point (mark_numbers m) ∷ [])
     unfolding mark_format MarkRepresentable
-    here = ap (λ l. first_failed (point l ∷ [])) (numbers_back (mark_numbers m) (mark_held m p q r s)) ∙ sym one_mark
+    here = ap (λ l. first_failed (point l ∷ [])) (numbers_back (mark_numbers m) (mark_held m p q r s))
 
-    pub mark_answer : writer_answer mark_format m entry ≡ answer_by (first_failed (marks_tests sheet (mark_numbers m))) 32 (length entry)
+    pub mark_answer : writer_answer mark_format m entry ≡ answer_by (first_failed (point (mark_numbers m) ∷ [])) 32 (length entry)
     mark_answer = answer_is mark_format m entry above ∙ rw (here, mark_size)
 
 -- ---- what the format keeps
@@ -68,7 +62,7 @@ within_finite limit (x ∷ l) h =
     let p = and_parts (is_finite x && le (abs_of x) limit) (every (within limit) l) h in
     rw ((and_parts (is_finite x) (le (abs_of x) limit) p.0).0, within_finite limit l p.1)
 
-four : (bits : List ℕ) → length bits ≡ 4 → mark_numbers (mark_from bits) ≡ map (of_bits binary64) bits
+pub four : (bits : List ℕ) → length bits ≡ 4 → mark_numbers (mark_from bits) ≡ map (of_bits binary64) bits
 unfolding mark_numbers mark_from places_at
 four bits size = ap (map (of_bits binary64)) (sym (one_by_one 4 0 bits 0 size))
 

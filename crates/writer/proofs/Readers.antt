@@ -20,7 +20,8 @@ use Rattle.rule.proofs.Tests.{clash}
 use Rattle.numbers.specs.Constants.{one, farthest}
 use Rattle.numbers.specs.Finite.{all_finite}
 use Rattle.estimator.specs.Family.{Family}
-use Rattle.estimator.specs.Marks.{point, shape, all_within, few, entries, marks_tests}
+use Rattle.estimator.specs.Marks.{point, shape, all_within, entries, marks_tests, run_tests}
+use Rattle.estimator.proofs.Alone.{one_mark}
 use Rattle.sheet.specs.Marks.{marks_of, mark_numbers, no_mark, mark_at}
 use Rattle.sheet.specs.Sheets.{sheet}
 use Rattle.sheet.specs.declared.marks.Mark.{Mark}
@@ -39,7 +40,7 @@ use Rattle.pick.specs.Opening.{opening_tests, fresh_run, opening_answer, record_
 use Rattle.writer.specs.Format.{sized, reads, as_numbers, numbers_read, record_of, writer_answer, written}
 use Rattle.writer.specs.Formats.{options_numbers, options_asked, options_format, mark_layout, mark_from, mark_format, trial_format}
 use Rattle.writer.proofs.Bits.{numbers_back, fields_fit, bits_again, bits-written}
-use Rattle.writer.proofs.OfMark.{mark_size, packs, within_finite}
+use Rattle.writer.proofs.OfMark.{mark_size, packs, four, within_finite}
 use Rattle.writer.proofs.OfOptions.{options_faithful}
 
 -- two tests of one number are as one
@@ -75,7 +76,7 @@ module _ (l : List ℕ) where
   -- whatever the marks and the stops are, of any family
   module _ {E M K : Type 0} (f : Family E M K) (e : E) (marks : List Float) (stops : List ℕ) where
     abbrev rest : List Test
-    rest = marks_tests f marks ++ (few f marks ∷ entries f marks stops ∷ f.tests e)
+    rest = run_tests f marks ++ (entries f marks stops ∷ f.tests e)
 
     pub opening_refuses : (length l ≡ 32 → ⊥) → (k : ℕ) → reads options_format l ≡ refused k → refused k ≡ record_answer f e l marks stops
     unfolding record_answer opening_tests
@@ -153,11 +154,12 @@ module _ (l : List ℕ) (size : length l ≡ 32) where
   mark_is = ap marks_of numbers_in_lem ∙ four-marks f f_wide
 
   mark_tests : first_failed (sized mark_format l ∷ point (map (of_bits binary64) f) ∷ []) ≡ first_failed (marks_tests sheet (numbers_in 4 l))
-  unfolding sized mark_format marks_tests shape
+  unfolding sized mark_format shape
   mark_tests =
       let wide : length (map (of_bits binary64) f) ≡ 4 = length-map f (of_bits binary64) ∙ f_wide in
       sym (passes (sized mark_format l) (point (map (of_bits binary64) f) ∷ []) (rw (mark_size, eq-eqb (length l) 32 size)))
       ∙ passes (shape sheet (map (of_bits binary64) f)) (point (map (of_bits binary64) f) ∷ []) (rw wide)
+      ∙ sym (one_mark sheet (map (of_bits binary64) f) (mark_from f) (four-marks f f_wide) (four f f_wide))
       ∙ ap (λ xs. first_failed (marks_tests sheet xs)) (sym numbers_in_lem)
 
   -- a file of one mark is read and tested as the format has it

@@ -68,7 +68,7 @@ options_format =
       Representable = OptionsRepresentable;
     }
 
--- ---- a mark: 6. Its reader takes a list of marks; here it has one, and any other length is 5.
+-- ---- a mark: 6. Its reader takes a list of marks; here it has one, and any other length is 5. One mark by itself has nothing to clash with, so 18 is never its number.
 
 unfoldable pub mark_layout : List ℕ
 mark_layout = replicate 4 8
