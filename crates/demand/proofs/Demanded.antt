@@ -1,5 +1,5 @@
 -- The customer's third demand, proved: `demand_3`. What it says is `Demand3` of specs/Demand.antt, each clause beside the demand's words. Assumes nothing.
-use mathlib.Core.Path.{◌≡◌, sym, ap, ◌∙◌}
+use mathlib.Core.Path.{sym, ap, ◌∙◌}
 use mathlib.Core.List.{List, ◌∷◌}
 use Prim.Native.Nat.{ℕ}
 use lib.ListN.{length}

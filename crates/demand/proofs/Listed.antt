@@ -220,7 +220,7 @@ module _ {E M K : Type 0} (f : Family E M K) (w : ℕ) (wide : 4 ≤ w) (counts 
         own : (won : Winner M) → view_best s.winner ≡ held won → Own won.model won.count won.rms
         own won h = winner_has (rule_of o) (judge_of f e o n) (Carries marks stops) Own own_of calls carried won (winner_of s calls listed.1.booked won h)
 
-    -- a trial without test 6
+    -- a trial without tests 6 and 18
     pub stepped_tried : (s t : State E M) (c : Call) (x : Told) → c.marks ≡ marks → Stepped f s c t x → Tried f s c t x
     stepped_tried s t c x same h = h ∙ steps_as_trial f e o marks stops s₀ opening s c same
 

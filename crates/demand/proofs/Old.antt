@@ -12,7 +12,7 @@ use Rattle.numbers.specs.Finite.{is_finite}
 use Rattle.numbers.specs.Ratio.{ratio_accepted, ratio}
 use Rattle.numbers.specs.Measure.{as_distance}
 use Rattle.estimator.specs.Family.{distance_of, distances_of}
-use Rattle.estimator.specs.Marks.{few, entries, marks_tests}
+use Rattle.estimator.specs.Marks.{entries, run_tests as tests_of_marks}
 use Rattle.sheet.specs.Marks.{marks_of}
 use Rattle.sheet.specs.Sheets.{sheet, no_camera}
 use Rattle.sheet.specs.declared.model.Model.{Model}
@@ -66,7 +66,7 @@ module _ (o : RansacOptions) (is : o.ratio ≡ one) where
   unfolding first_failed options_tests old_tests
   same_tests rest = rw accepted
 
-  same-opening : (marks : List Float) (stops : List ℕ) → first_failed (opening_tests sheet no_camera o marks stops) ≡ first_failed (old_tests o ++ (marks_tests sheet marks ++ (few sheet marks ∷ entries sheet marks stops ∷ [])))
+  same-opening : (marks : List Float) (stops : List ℕ) → first_failed (opening_tests sheet no_camera o marks stops) ≡ first_failed (old_tests o ++ (tests_of_marks sheet marks ++ (entries sheet marks stops ∷ [])))
   unfolding opening_tests
   same-opening marks stops = same_tests _
 

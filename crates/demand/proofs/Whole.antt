@@ -19,8 +19,9 @@ use Rattle.rule.specs.Lists.{every}
 use Rattle.rule.proofs.Tests.{neither}
 use Rattle.rule.proofs.Order.{passes, first_passed, all_passed, none_failed}
 use Rattle.estimator.specs.Family.{distances_of}
-use Rattle.estimator.specs.Marks.{shape, point, few, entries, marks_tests}
+use Rattle.estimator.specs.Marks.{shape, entries, enough_tests, run_tests as tests_of_marks}
 use Rattle.estimator.proofs.Tests.{shaped}
+use Rattle.estimator.proofs.Run.{enough_numbered, run_numbered, enough_left}
 use Rattle.sheet.specs.Marks.{marks_of}
 use Rattle.sheet.specs.Sheets.{sheet, no_camera}
 use Rattle.sheet.specs.Owed.{wide, counts}
@@ -43,6 +44,7 @@ use Rattle.judge.specs.Judging.{rule_of, judge_of, judgement_of}
 use Rattle.pick.specs.Run.{view_best, book_of, view_outcome}
 use Rattle.pick.specs.Opening.{opening_tests}
 use Rattle.pick.specs.declared.run_state.State.{State}
+use Rattle.pick.proofs.Order.{none_left}
 use Rattle.salghemu.specs.Whole.{Files, mark_bytes, stop_bytes, later_tests, order_of, run_tests, records_in, call_with, calls_of, judged_in, stop_of, won_by, result_of, after_tests, run_answer, number_of, index_bytes, laid_over, written, Gave}
 use Rattle.demand.specs.Demand.{Opening, Told, view_told, Tried, Refuses, GivesOf, CalledAlike, AfterRun, by_tests, by_trials}
 use Rattle.demand.proofs.Listed.{opening-accepted, after_list, given_as, calls_answered}
@@ -68,26 +70,23 @@ module _ (f : Files) (winner indices : ℕ) (all : first_failed (run_tests f win
     pub options_fine : first_failed (options_tests o) ≡ 0
     pub cut : length f.marks % 32 ≡ 0
     pub short : length f.marks ≤ 64000
-    pub point_fine : (point l).fails ≡ false
-    pub few_fine : (few sheet l).fails ≡ false
+    pub marks_fine : first_failed (enough_tests sheet l) ≡ 0
     pub stops_fine : length f.stops ≡ 4 * suc n
 
   fine : Fine
-  unfolding run_tests order_of later_tests options_record mark_bytes point few stop_bytes
+  unfolding run_tests order_of later_tests options_record mark_bytes stop_bytes
   fine =
       let r = first_passed (options_record f.options) _ tt all in
       let options = none_failed (options_tests o) _ r.1 in
       let d = first_passed (mark_bytes f.marks) _ tt (all_passed (options_tests o) _ (options_above_0 o) options ∙ r.1) in
       let m = neither (not (eqb (length f.marks % 32) 0)) (ltb 64000 (length f.marks)) d.0 in
-      let e = first_passed (point l) _ tt d.1 in
-      let g = first_passed (few sheet l) _ tt e.1 in
-      let h = first_passed (stop_bytes n (length f.stops)) _ tt g.1 in
+      let e = none_failed (enough_tests sheet l) _ d.1 in
+      let h = first_passed (stop_bytes n (length f.stops)) _ tt (all_passed (enough_tests sheet l) _ (enough_numbered sheet l) e ∙ d.1) in
       record {
         options_fine = options;
         cut = eqb-true (length f.marks % 32) 0 (not-false (eqb (length f.marks % 32) 0) m.0);
         short = ltb-false 64000 (length f.marks) m.1;
-        point_fine = e.0;
-        few_fine = g.0;
+        marks_fine = e;
         stops_fine = eqb-true (length f.stops) (4 * suc n) (not-false (eqb (length f.stops) (4 * suc n)) h.0);
       }
 
@@ -101,18 +100,12 @@ module _ (f : Files) (winner indices : ℕ) (all : first_failed (run_tests f win
   unfolding entries
   entries_fine = let c = words_count f.stops in let s = fine.stops_fine in rw (eq-eqb (length (words_of f.stops)) (suc n) (omega (arith, c, s)))
 
-  none_left : 0 ≡ first_failed []
-  unfolding first_failed
-  none_left = refl
-
   pub opening_fine : 0 ≡ first_failed (opening_tests sheet no_camera o l (words_of f.stops))
-  unfolding opening_tests marks_tests
+  unfolding opening_tests
   opening_fine =
       none_left
       ∙ passes (entries sheet l (words_of f.stops)) [] entries_fine
-      ∙ passes (few sheet l) _ fine.few_fine
-      ∙ passes (point l) _ fine.point_fine
-      ∙ passes (shape sheet l) _ shape_fine
+      ∙ all_passed (tests_of_marks sheet l) _ (run_numbered sheet l) (sym (enough_left sheet l shape_fine) ∙ fine.marks_fine)
       ∙ all_passed (options_tests o) _ (options_above_0 o) fine.options_fine
 
 -- ---- the run's promise, by its answer

@@ -1,5 +1,6 @@
--- Document 02, order 3: 'A 32-byte record, or the maker, has ratio 1 and gives the old bits.' What the calls and the whole run came to before there was a
--- ratio, by 01's own tests and distance, and that it is what they come to with ratio 1. `proofs/Old.antt` proves `OldBits`.
+-- Document 02, order 3: 'A 32-byte record, or the maker, has ratio 1 and gives the old bits.' What the calls and the whole run come to without a ratio, by 01's
+-- own tests (18 of order 6 with them, which knows no ratio either) and distance, and that it is what they come to with ratio 1. `proofs/Old.antt` proves
+-- `OldBits`.
 use Rattle.std.specs.Prelude.{◌≡◌, not, List, [], ◌∷◌, ◌++◌, map, ℕ, length, Float}
 use Rattle.rule.specs.Refusal.{RECORD}
 use Rattle.rule.specs.Answer.{Answer}
@@ -8,7 +9,7 @@ use Rattle.rule.specs.Lists.{for_each}
 use Rattle.numbers.specs.Constants.{one}
 use Rattle.numbers.specs.Measure.{as_distance}
 use Rattle.estimator.specs.Family.{measure_of, distances_of}
-use Rattle.estimator.specs.Marks.{few, entries, marks_tests}
+use Rattle.estimator.specs.Marks.{entries, run_tests}
 use Rattle.sheet.specs.Marks.{marks_of}
 use Rattle.sheet.specs.Distance.{plain_measure_of}
 use Rattle.sheet.specs.Sheets.{sheet, no_camera}
@@ -98,7 +99,7 @@ pub record OldBits : Type 0 where
   pub distances : distances_of sheet no_camera one ≡ plain_distances_of
   -- The opening is refused as before, and each call comes to what it came to: so after any list of calls all is by the old judgement.
   pub opening : (o : RansacOptions) (marks : List Float) (stops : List ℕ) → o.ratio ≡ one
-      → first_failed (opening_tests sheet no_camera o marks stops) ≡ first_failed (old_tests o ++ (marks_tests sheet marks ++ (few sheet marks ∷ entries sheet marks stops ∷ [])))
+      → first_failed (opening_tests sheet no_camera o marks stops) ≡ first_failed (old_tests o ++ (run_tests sheet marks ++ (entries sheet marks stops ∷ [])))
   pub call : (o : RansacOptions) (n : ℕ) (c : Call) → o.ratio ≡ one → judgement_of sheet no_camera o n c ≡ old_judgement o n c
   pub after_calls : (o : RansacOptions) (marks : List Float) (stops : List ℕ) (s₀ s : State Sheet Model) (calls : List Call) (answers : List Told)
       → o.ratio ≡ one → Opening sheet no_camera o marks stops s₀ → Called (Tried sheet) s₀ calls answers s → CarriedBy sheet no_camera o marks stops calls
