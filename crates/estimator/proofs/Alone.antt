@@ -26,14 +26,14 @@ equals_itself (fin true m e) h = rw (eq-eqb (m * up e * down e) (m * up e * down
 equals_itself (fin false m e) h = rw (eq-eqb (m * up e * down e) (m * up e * down e) refl)
 
 module _ (limit : Float) where
-  equal_themselves : (l : List Float) → all_within limit l ≡ true → pointwise eq l l ≡ true
+  pub equal_themselves : (l : List Float) → all_within limit l ≡ true → pointwise eq l l ≡ true
   unfolding all_within within
   equal_themselves [] h = refl
   equal_themselves (x ∷ l) h =
       let p = and_parts (is_finite x && le (abs_of x) limit) (every (within limit) l) h in
       rw (equals_itself x (and_parts (is_finite x) (le (abs_of x) limit) p.0).0, equal_themselves l p.1) refl
 
-  behind : (k : ℕ) (l : List Float) → all_within limit l ≡ true → all_within limit (drop k l) ≡ true
+  pub behind : (k : ℕ) (l : List Float) → all_within limit l ≡ true → all_within limit (drop k l) ≡ true
   unfolding all_within
   behind zero l h = h
   behind (suc k) [] h = h

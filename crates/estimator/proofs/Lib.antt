@@ -5,3 +5,8 @@ pub mod Order
 pub mod Stride
 pub mod Run
 pub mod Alone
+pub mod Columns
+pub mod Digits
+pub mod Keys
+pub mod Neighbours
+pub mod Doubled

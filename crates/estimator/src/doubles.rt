@@ -1,12 +1,14 @@
 // Marks of one position and two pixels (document 02, order 6): whether a list has two of them.
-ghost use Rattle.std.specs.Prelude.{◌≡◌, ◌<◌, ◌≤◌, ◌/◌, true, length};
-ghost use Rattle.rule.specs.Lists.{some};
+ghost use Rattle.std.specs.Prelude.{◌≡◌, ◌<◌, ◌≤◌, ◌-◌, ◌/◌, true, length};
+ghost use Rattle.std.specs.List.{All};
 ghost use Rattle.numbers.specs.Constants.{farthest};
 ghost use Rattle.estimator.specs.Family.{mark_at};
 ghost use Rattle.estimator.specs.Marks.{all_within};
 ghost use Rattle.estimator.specs.Double.{clash, doubled};
+ghost use Rattle.estimator.specs.Ranks.{neighbours};
 
-use crate::{Estimator, mark_count};
+use crate::Estimator;
+use crate::positions::positions_of;
 
 // The numbers of the mark at place `i`.
 #[tactic(auto, using(crate::proofs::Stride::inside))]
@@ -30,28 +32,27 @@ fn clash_at<E: Estimator>(marks: &[f64], i: usize, j: usize) -> bool
     (position == other_position) & (pixel != other_pixel)
 }
 
-#[tactic(auto, using(std::proofs::lemmas::List::Folds::list_any_more), unfolding(crate::specs::Family::mark_at))]
-fn clashes<E: Estimator>(marks: &[f64], i: usize) -> bool
-    requires { i < length marks.now / E.WIDTH }
-    ensures { result ≡ some (clash E.family (mark_at E.family marks.now i)) (E.family.marks_of marks.now) }
+// Whether two of some places that stand side by side have marks of one position and two pixels.
+#[tactic(auto, unfolding(crate::specs::Ranks::neighbours))]
+fn neighbours_clash<E: Estimator>(marks: &[f64], places: &[u16]) -> bool
+    requires { All (λ p. p < length marks.now / E.WIDTH) places.now }
+    ensures { result ≡ neighbours (λ p q. clash E.family (mark_at E.family marks.now p) (mark_at E.family marks.now q)) (length places.now - 1) places.now }
 {
     let mut any = false;
-    for j in 0..mark_count::<E>(marks) {
-        any |= clash_at::<E>(marks, i, j);
+    for k in 0..places.len().saturating_sub(1) {
+        any |= clash_at::<E>(marks, places[k] as usize, places[k + 1] as usize);
     }
     any
 }
 
-// Whether two of the marks have one position and two pixels.
-#[tactic(auto, using(std::proofs::lemmas::List::Folds::list_any_more), unfolding(crate::specs::Family::mark_at, crate::specs::Double::doubled))]
+// Whether two of the marks have one position and two pixels: in the order of their positions these stand
+// side by side.
 pub fn doubled<E: Estimator>(marks: &[f64]) -> bool
     requires in_range { all_within farthest marks.now ≡ true }
     requires short { length marks.now ≤ 8000 }
     ensures { result ≡ doubled E.family (E.family.marks_of marks.now) }
 {
-    let mut any = false;
-    for i in 0..mark_count::<E>(marks) {
-        any |= clashes::<E>(marks, i);
-    }
-    any
+    let positions = positions_of::<E>(marks);
+    let places = sorting::ascending(&positions);
+    neighbours_clash::<E>(marks, &places[..positions.n])
 }

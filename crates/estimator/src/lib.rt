@@ -16,6 +16,7 @@ ghost use Rattle.estimator.specs.Numbers.{doubles_formed, model_read};
 ghost use Rattle.estimator.specs.Entry.{measured, distance_answer};
 
 mod doubles;
+mod positions;
 
 use doubles::doubled;
 use rule::Refusal;
