@@ -8,7 +8,8 @@ ghost use Rattle.estimator.specs.Double.{clash, doubled};
 ghost use Rattle.estimator.specs.Ranks.{neighbours};
 
 use crate::Estimator;
-use crate::positions::positions_of;
+use crate::positions::{Positions, fill_columns};
+use std::marker::PhantomData;
 
 // The numbers of the mark at place `i`.
 #[tactic(auto, using(crate::proofs::Stride::inside))]
@@ -52,7 +53,14 @@ pub fn doubled<E: Estimator>(marks: &[f64]) -> bool
     requires short { length marks.now ≤ 8000 }
     ensures { result ≡ doubled E.family (E.family.marks_of marks.now) }
 {
-    let positions = positions_of::<E>(marks);
+    let n = marks.len() / E::WIDTH;
+    let mut columns = [0; 4800];
+    fill_columns::<E>(marks, &mut columns);
+    let positions = Positions {
+        columns: &columns,
+        n,
+        family: PhantomData::<E>,
+    };
     let places = sorting::ascending(&positions);
-    neighbours_clash::<E>(marks, &places[..positions.n])
+    neighbours_clash::<E>(marks, &places[..n])
 }

@@ -82,6 +82,9 @@ pub trait Estimator: Copy {
     // 8,000 numbers are at most 2,000 marks, for which the picker has a place each.
     ghost wide: { 4 ≤ WIDTH };
 
+    // In front of a mark's pixel are at most three numbers.
+    ghost narrow: { WIDTH ≤ 5 };
+
     // No length of a record overflows.
     ghost small: { SIZE ≤ 1000 };
 

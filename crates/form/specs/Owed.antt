@@ -12,6 +12,9 @@ use Rattle.form.specs.Forms.{form}
 pub wide : 4 ≤ 5
 wide = omega arith
 
+pub narrow : 5 ≤ 5
+narrow = omega arith
+
 pub small : 12 ≤ 1000
 small = omega arith
 

@@ -4,7 +4,7 @@ ghost use Rattle.std.specs.Prelude.{◌≡◌, refl};
 ghost use Rattle.rule.specs.Answer.{told};
 ghost use Rattle.estimator.specs.Entry.{measured, distance_answer};
 ghost use Rattle.form.specs.Forms.{form};
-ghost use Rattle.form.specs.Owed.{wide, small, counts, placed};
+ghost use Rattle.form.specs.Owed.{wide, narrow, small, counts, placed};
 
 use crate::marks::{Mark, mark_at, pixel_of, point_of};
 use crate::model::{Camera, Model, project_point, squared_residual, transform_point};
@@ -74,6 +74,8 @@ impl Estimator for Camera {
     ghost size_is = { refl };
 
     ghost wide = { wide };
+
+    ghost narrow = { narrow };
 
     ghost small = { small };
 

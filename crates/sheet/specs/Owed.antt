@@ -12,6 +12,9 @@ use Rattle.sheet.specs.Sheets.{sheet}
 pub wide : 4 ≤ 4
 wide = omega arith
 
+pub narrow : 4 ≤ 5
+narrow = omega arith
+
 pub small : 9 ≤ 1000
 small = omega arith
 

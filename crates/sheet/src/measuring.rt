@@ -4,7 +4,7 @@ ghost use Rattle.std.specs.Prelude.{◌≡◌, refl};
 ghost use Rattle.rule.specs.Answer.{told};
 ghost use Rattle.estimator.specs.Entry.{measured, distance_answer};
 ghost use Rattle.sheet.specs.Sheets.{sheet, no_camera};
-ghost use Rattle.sheet.specs.Owed.{wide, small, counts, placed};
+ghost use Rattle.sheet.specs.Owed.{wide, narrow, small, counts, placed};
 
 use crate::marks::{Mark, Side, mark_at, point_of};
 use crate::model::{Model, Sheet, project, squared_residual};
@@ -71,6 +71,8 @@ impl Estimator for Sheet {
     ghost size_is = { refl };
 
     ghost wide = { wide };
+
+    ghost narrow = { narrow };
 
     ghost small = { small };
 
