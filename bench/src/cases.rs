@@ -7,7 +7,7 @@
 use compare::families::Proved;
 use oracle::book::Options;
 use oracle::cases::{Random, power_of_two, step};
-use oracle::family_cases::seen;
+use oracle::family_cases::{seen, settle};
 use oracle::pick_cases::Case;
 use oracle::scoring::rms;
 use oracle::sheet_cases::IDENTITY;
@@ -193,6 +193,7 @@ pub fn at_the_threshold() -> Case {
         };
         marks.extend([x, y, x + random.sign() * off, y]);
     }
+    settle::<Sheet>(&mut marks);
     let trials = (0..TRIALS).map(|i| fitted(IDENTITY.map(|h| h * power_of_two(i as i32 - 500))));
     case(marks, trials.collect(), false)
 }

@@ -4,7 +4,7 @@
 use crate::book::Options;
 use crate::cases::{Random, power_of_two, step};
 use crate::family::Numbers;
-use crate::family_cases::{Cases, identity, near_identity, seen};
+use crate::family_cases::{Cases, identity, near_identity, seen, settle};
 use crate::pick_cases::Case;
 use crate::ratio_cases;
 use crate::scoring::{places, rms};
@@ -34,6 +34,7 @@ fn marks<F: Cases>(random: &mut Random, family: &F, h: &F::Model, size: f64, n: 
         });
         list.extend_from_slice(seen(family, h, point, off).as_ref());
     }
+    settle::<F>(&mut list);
     list
 }
 

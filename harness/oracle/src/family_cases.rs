@@ -7,6 +7,7 @@ use crate::pick::Replayed;
 use crate::pick_cases::Case;
 use crate::sheet::Sheet;
 use crate::sheet_cases;
+use std::collections::HashMap;
 
 /// A family with inputs to compare on.
 pub trait Cases: Replayed {
@@ -14,7 +15,7 @@ pub trait Cases: Replayed {
     /// others by 3 along v alone. Four are asked for, and are within 2.
     fn example() -> Case<Self>;
 
-    /// n marks of the i-th kind, not damaged.
+    /// n marks of the i-th kind, not damaged: some stand twice, and none clash.
     fn few_marks(random: &mut Random, i: usize, n: usize) -> Vec<f64>;
 
     /// A value that an opening accepts, and any at all, as a state made by hand
@@ -89,6 +90,86 @@ pub fn seen<F: Family>(family: &F, h: &F::Model, mut mark: F::Mark, off: [f64; 2
     mark
 }
 
+// Marks of one position and two pixels.
+
+/// The marks that clash with one before them, each with the pixel of the first
+/// at its position.
+fn clashes<F: Family>(marks: &[f64]) -> Vec<(usize, [f64; 2])> {
+    let mut pixels = HashMap::new();
+    let mut list = Vec::new();
+    for (i, mark) in marks.chunks_exact(F::WIDTH).enumerate() {
+        let (at, pixel) = mark.split_at(F::WIDTH - 2);
+        // -0 + 0 is 0.
+        let at: Vec<u64> = at.iter().map(|x| (x + 0.0).to_bits()).collect();
+        let first = *pixels.entry(at).or_insert([pixel[0], pixel[1]]);
+        if pixel != first {
+            list.push((i, first));
+        }
+    }
+    list
+}
+
+/// Gives each mark that clashes with one before it that one's pixel: it then
+/// stands twice.
+pub fn settle<F: Family>(marks: &mut [f64]) {
+    for (i, pixel) in clashes::<F>(marks) {
+        let end = F::WIDTH * (i + 1);
+        marks[end - 2..end].copy_from_slice(&pixel);
+    }
+}
+
+/// Settles the list, or, one time in two, moves such marks to positions of their
+/// own, so that all pixels stay.
+pub fn settle_or_part<F: Family>(random: &mut Random, marks: &mut [f64]) {
+    if random.below(2) == 0 {
+        for (i, _) in clashes::<F>(marks) {
+            for x in &mut marks[F::WIDTH * i..F::WIDTH * (i + 1) - 2] {
+                *x = 2000.0 * random.unit() - 1000.0;
+            }
+        }
+    }
+    settle::<F>(marks);
+}
+
+/// Another number than this one, often close to it.
+fn other(random: &mut Random, x: f64) -> f64 {
+    let by = random.pick(&[1, -1]);
+    let other = match random.below(4) {
+        0 => -x,
+        1 => random.pick(&[0.0, -0.0, 5e-324, 1e9]),
+        2 => step(x, by),
+        _ => x + by as f64,
+    };
+    match other.abs() <= 1e9 && other != x {
+        true => other,
+        false => 7.0 - x.clamp(-1.0, 1.0),
+    }
+}
+
+/// Gives a mark the position of another, whose zeros may change their signs, and
+/// of that one's pixel u, v or both to something else. Of two marks at least.
+pub fn clash<F: Family>(random: &mut Random, marks: &mut [f64]) {
+    let n = (marks.len() / F::WIDTH) as u64;
+    if n < 2 {
+        return;
+    }
+    let from = random.below(n);
+    let to = (from + 1 + random.below(n - 1)) % n;
+    let [from, to] = [from, to].map(|i| F::WIDTH * i as usize);
+    let mut mark = marks[from..from + F::WIDTH].to_vec();
+    let (at, pixel) = mark.split_at_mut(F::WIDTH - 2);
+    for x in at {
+        *x = if *x == 0.0 { random.sign() * 0.0 } else { *x };
+    }
+    let changed = random.from_to(1, 3);
+    for (k, x) in pixel.iter_mut().enumerate() {
+        if changed >> k & 1 == 1 {
+            *x = other(random, *x);
+        }
+    }
+    marks[to..to + F::WIDTH].copy_from_slice(&mark);
+}
+
 // Lists of marks.
 
 /// The i-th random list: few marks, and every 256th time up to the most.
@@ -98,14 +179,20 @@ pub fn marks<F: Cases>(random: &mut Random, i: usize) -> Vec<f64> {
         _ => random.from_to(0, 12),
     };
     let mut list = F::few_marks(random, i, n as usize);
-    if random.below(8) == 0 {
-        damage::<F>(random, &mut list);
+    match random.below(16) {
+        0 => clash::<F>(random, &mut list),
+        1 | 2 => damage::<F>(random, &mut list),
+        _ => {}
     }
     list
 }
 
-/// Gives the list a number that isn't allowed, or a length, or both.
+/// Gives the list a number that isn't allowed, or a length, or both, and a clash
+/// besides or not.
 fn damage<F: Family>(random: &mut Random, list: &mut Vec<f64>) {
+    if random.below(2) == 0 {
+        clash::<F>(random, list);
+    }
     let nan = f64::from_bits(random.pick(&NANS));
     let over = random.sign() * random.pick(&[step(1e9, 1), 2e9, f64::MAX, f64::INFINITY]);
     let way = random.below(4);

@@ -2,7 +2,8 @@
 //! mark, by hand and random.
 
 use crate::cases::{NANS, Random, step};
-use crate::family_cases::{Cases, identity, near_identity};
+use crate::double_cases;
+use crate::family_cases::{Cases, identity, near_identity, settle, settle_or_part};
 use crate::pick_cases::Case;
 use crate::sheet_cases::{self, KINDS, side};
 use crate::writing_cases::limits;
@@ -22,12 +23,15 @@ fn raised(marks: &[f64], mut z: impl FnMut(usize, &Mark) -> f64) -> Vec<f64> {
     raised
 }
 
-/// Points with pixels that differ from one to the next.
+/// Points with pixels that differ from one to the next; the same point has the
+/// same pixel.
 fn with_pixels(points: &[[f64; 3]]) -> Vec<f64> {
     let marks = points.iter().enumerate();
-    marks
+    let mut marks: Vec<f64> = marks
         .flat_map(|(i, &[x, y, z])| [x, y, z, 10.0 * i as f64, -3.0])
-        .collect()
+        .collect();
+    settle::<Form>(&mut marks);
+    marks
 }
 
 /// The corners of a cube, in any order.
@@ -125,7 +129,7 @@ fn long_traps() -> Vec<Vec<f64>> {
 }
 
 /// All of these, and the sheet's own with a third coordinate of several kinds.
-pub fn all_traps() -> Vec<Vec<f64>> {
+pub fn traps() -> Vec<Vec<f64>> {
     let mut list: Vec<Vec<f64>> = (0..=8).map(cube).collect();
     list.extend(spread_traps());
     list.extend(refused_traps().into_iter().map(|(marks, _)| marks));
@@ -140,6 +144,11 @@ pub fn all_traps() -> Vec<Vec<f64>> {
         }
     }
     list
+}
+
+/// With those in which marks clash, or nearly.
+pub fn all_traps() -> Vec<Vec<f64>> {
+    [traps(), double_cases::short::<Form>()].concat()
 }
 
 // Cameras.
@@ -243,18 +252,20 @@ impl Cases for Form {
     }
 
     /// A sheet's marks with a third coordinate: of the same kind, of another,
-    /// x again, or one for all.
+    /// x again, or one for all. Marks of one x and y may have two pixels then.
     fn few_marks(random: &mut Random, i: usize, n: usize) -> Vec<f64> {
-        let flat = sheet_cases::few_marks(random, i, n);
+        let flat = sheet_cases::any_marks(random, i, n);
         let other = random.below(KINDS as u64) as usize;
         let one = random.pick(&[0.0, -0.0, 1.0, 0.1, 1e9]);
         let way = random.below(8);
         let deep = side(random, if way == 0 { other } else { i }, n);
-        raised(&flat, |k, m| match way {
+        let mut marks = raised(&flat, |k, m| match way {
             1 => m[0],
             2 => one,
             _ => deep[k][0],
-        })
+        });
+        settle_or_part::<Self>(random, &mut marks);
+        marks
     }
 
     /// One that keeps whole numbers whole, one as they are built, one at the

@@ -7,6 +7,7 @@ pub mod answers;
 pub mod book;
 pub mod cases;
 pub mod close_cases;
+pub mod double_cases;
 pub mod entries;
 pub mod example;
 mod family;

@@ -7,7 +7,7 @@ use crate::book::{
 };
 use crate::cases::{NANS, Random, asked, power_of_two, step, usually};
 use crate::family::Numbers;
-use crate::family_cases::{self, Cases, identity, seen};
+use crate::family_cases::{self, Cases, clash, identity, seen, settle};
 use crate::ratio_cases;
 use crate::records;
 use crate::sheet::Sheet;
@@ -177,6 +177,7 @@ fn whole<F: Cases>(random: &mut Random, family: &F, n: usize) -> Marked<F> {
         let mark = seen(family, &truth, point, random.pick(&EXACT));
         marks.extend_from_slice(mark.as_ref());
     }
+    settle::<F>(&mut marks);
     let pool = (0..random.from_to(1, 6)).map(|_| {
         let h = moved::<F>(truth, random.pick(&EXACT));
         rescaled(random, h)
@@ -265,6 +266,7 @@ fn folded<F: Cases>(random: &mut Random, family: &F, n: usize) -> Marked<F> {
         let mark = seen(family, &map, point, random.pick(&EXACT));
         marks.extend_from_slice(mark.as_ref());
     }
+    settle::<F>(&mut marks);
     let pool = (0..random.from_to(2, 6)).map(|_| {
         let mut h = map;
         let off = random.pick(&EXACT);
@@ -465,12 +467,19 @@ fn bad_number(random: &mut Random) -> f64 {
     random.pick(&[nan, over, -over])
 }
 
-/// Marks that are refused: their length, a number, or too few of them.
+/// Marks that are refused: their length, a number, two that clash, or too few of
+/// them, of which two may clash.
 pub fn damage_marks<F: Cases>(random: &mut Random, marks: &mut Vec<f64>) {
-    match random.below(5) {
+    match random.below(7) {
         0 => relength(random, marks, 1.5, 7),
-        1 => marks.truncate(F::WIDTH * random.below(F::FEWEST as u64) as usize),
-        2 => marks.resize(8000 + random.pick(&[1, F::WIDTH, 40]), 2.5),
+        1 => {
+            marks.truncate(F::WIDTH * random.below(F::FEWEST as u64) as usize);
+            if random.below(2) == 0 {
+                clash::<F>(random, marks);
+            }
+        }
+        2 => clash::<F>(random, marks),
+        3 => marks.resize(8000 + random.pick(&[1, F::WIDTH, 40]), 2.5),
         _ if marks.is_empty() => marks.push(0.0),
         _ => {
             let place = random.below(marks.len() as u64) as usize;

@@ -2,8 +2,10 @@
 //! random lists.
 
 use crate::cases::{Random, power_of_two, step};
+use crate::double_cases;
+use crate::family_cases::{settle, settle_or_part};
 use crate::ratio_cases::{LEAST, MOST};
-use crate::{Mark, Model, Point};
+use crate::{Mark, Model, Point, Sheet};
 
 /// 01's square without its middle.
 pub const SQUARE: [Point; 4] = [[0.0, 0.0], [100.0, 0.0], [100.0, 100.0], [0.0, 100.0]];
@@ -151,6 +153,8 @@ pub fn long_traps() -> Vec<Vec<f64>> {
     bad_last[7999] = f64::NAN;
     let mut bad_first = [spread.as_slice(), &[0.0; 4]].concat();
     bad_first[0] = f64::NAN;
+    let mut on_a_line = pair(&side(random, 10, 2000), &side(random, 0, 2000));
+    settle::<Sheet>(&mut on_a_line);
     vec![
         bad_last,
         bad_first,
@@ -162,19 +166,28 @@ pub fn long_traps() -> Vec<Vec<f64>> {
         both(&side(random, 6, 2000)),
         both(&[[0.1, 0.7]; 2000]),
         both(&[[1e9, -1e9]; 2000]),
-        pair(&side(random, 10, 2000), &side(random, 0, 2000)),
+        on_a_line,
         pair(&side(random, 0, 2000), &side(random, 10, 2000)),
     ]
 }
 
-/// All of these: usual, at a limit, refused and long.
+/// All of these: usual, at a limit, refused and long; and those in which marks
+/// clash, or nearly.
 pub fn all_traps() -> Vec<Vec<f64>> {
     let refused = refused_traps().into_iter().map(|(marks, _)| marks);
-    [mark_traps(), refused.collect(), long_traps()].concat()
+    let doubles = double_cases::short::<Sheet>();
+    [mark_traps(), refused.collect(), long_traps(), doubles].concat()
 }
 
-/// n marks of the i-th kind, not damaged.
+/// n marks of the i-th kind, not damaged; none clash.
 pub fn few_marks(random: &mut Random, i: usize, n: usize) -> Vec<f64> {
+    let mut marks = any_marks(random, i, n);
+    settle_or_part::<Sheet>(random, &mut marks);
+    marks
+}
+
+/// The same, and some may clash.
+pub(crate) fn any_marks(random: &mut Random, i: usize, n: usize) -> Vec<f64> {
     let sheet = side(random, i, n);
     let pixel_kind = match random.below(4) {
         0 => i,
