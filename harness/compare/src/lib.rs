@@ -45,7 +45,7 @@ pub fn is_long(count: usize) -> bool {
 
 /// How often each answer came: the refusals by their numbers, 0 for accepted.
 #[derive(Default)]
-pub struct Tally([usize; 18]);
+pub struct Tally([usize; 19]);
 
 impl Tally {
     pub fn add(&mut self, number: u32) {

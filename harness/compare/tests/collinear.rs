@@ -13,6 +13,7 @@ struct Tally {
     yes: usize,
     shape: usize,
     point: usize,
+    double: usize,
     /// The closeness tests differ.
     skipped: usize,
     /// Among these, where the Rust says otherwise.
@@ -22,7 +23,7 @@ struct Tally {
 impl Tally {
     /// Sees that every answer came.
     fn met(&self) {
-        let refused = [self.shape, self.point];
+        let refused = [self.shape, self.point, self.double];
         let answers = [self.no, self.yes, self.skipped, self.otherwise];
         assert!(refused.iter().chain(&answers).all(|&count| count > 0));
     }
@@ -44,7 +45,8 @@ fn compare(marks: &[f64], side: u32, tally: &mut Tally) {
         0 => tally.no += 1,
         1 => tally.yes += 1,
         5 => tally.shape += 1,
-        _ => tally.point += 1,
+        6 => tally.point += 1,
+        _ => tally.double += 1,
     }
 }
 

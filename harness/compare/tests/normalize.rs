@@ -9,7 +9,7 @@ use oracle::{Family, Form, Sheet, entries, sheet_cases};
 use proved::form;
 
 /// Every number that normalising may answer.
-const ANSWERS: [u32; 5] = [0, 5, 6, 9, 12];
+const ANSWERS: [u32; 6] = [0, 5, 6, 18, 9, 12];
 
 /// Points that are normalised: those of marks of a family.
 trait Points {
@@ -141,7 +141,7 @@ fn lists_of_forms() {
     of_a_form(|entry| entry.random_lists::<Form>(71, 60_000));
 }
 
-/// 12 comes before 9, and both after 5 and 6.
+/// 12 comes before 9, and both after 5, 6 and 18.
 #[test]
 fn order() {
     let random = &mut Random::new(73);

@@ -163,7 +163,7 @@ fn damaged_folders() {
     println!("pickmarks, damaged: {:?}", lines.0);
     if count >= LONG {
         lines.met(&["winner", "no winner"]);
-        for number in [1, 2, 3, 4, 16, 5, 6, 7, 8] {
+        for number in [1, 2, 3, 4, 16, 5, 6, 18, 7, 8] {
             lines.met(&[&format!("refused {number}")]);
         }
     }

@@ -1,6 +1,6 @@
 //! The entries as 01 has them for sheets and 02's order 5 for forms: the
 //! original functions with the refusals in front, in their order, and 02's 16
-//! where it belongs.
+//! and 18 where they belong.
 //!
 //! Marks are one flat list, four numbers each or a form's five. A side is 0 for
 //! the sheet and anything else for the pixels. Results go to a lent list: a
@@ -29,6 +29,8 @@ pub const SHEET_LINE: u32 = 13;
 pub const PIXEL_LINE: u32 = 14;
 /// Refusal 16 RATIO.
 pub const RATIO: u32 = 16;
+/// Refusal 18 DOUBLE.
+pub const DOUBLE: u32 = 18;
 
 /// Three rows of three.
 pub type Matrix = [[f64; 3]; 3];
@@ -44,11 +46,26 @@ pub(crate) fn shaped<F: Family>(marks: &[f64]) -> Result<&[F::Mark], u32> {
     Ok(list)
 }
 
-/// 5, then 6. The whole list is tested, whichever side is asked for.
+/// 5, 6, 18. The whole list is tested, whichever side is asked for.
 fn tested<F: Family>(marks: &[f64]) -> Result<&[F::Mark], u32> {
     let list = shaped::<F>(marks)?;
     allowed(marks)?;
+    single(list)?;
     Ok(list)
+}
+
+/// 18 for two marks of one position and two pixels. `==` has -0 equal to 0.
+pub fn single<M: Numbers>(marks: &[M]) -> Result<(), u32> {
+    for (i, a) in marks.iter().enumerate() {
+        for b in &marks[i + 1..] {
+            let (at, pixel) = a.as_ref().split_at(M::COUNT - 2);
+            let (other_at, other_pixel) = b.as_ref().split_at(M::COUNT - 2);
+            if at == other_at && pixel != other_pixel {
+                return Err(DOUBLE);
+            }
+        }
+    }
+    Ok(())
 }
 
 /// 6 for a number that is not finite or of magnitude above 1e9.
@@ -84,7 +101,7 @@ fn put(lent: &mut [f64], numbers: &[f64]) -> Result<(), u32> {
     Ok(())
 }
 
-/// Normalising: 5, 6, 12, 9. The points, x and y in turn, go to the lent list.
+/// Normalising: 5, 6, 18, 12, 9. The points, x and y in turn, go to the lent list.
 pub fn normalize(marks: &[f64], side: u32, points: &mut [f64]) -> Result<Matrix, u32> {
     tested::<Sheet>(marks)?;
     let (list, matrix) = sheet::normalize_points_2d(&side_of(marks, side)).ok_or(SPREAD)?;
@@ -101,13 +118,13 @@ pub fn normalize_form(marks: &[f64], points: &mut [f64]) -> Result<Matrix4, u32>
     Ok(matrix)
 }
 
-/// Collinear: 5, 6. Not to be compared where [`closeness_differs`].
+/// Collinear: 5, 6, 18. Not to be compared where [`closeness_differs`].
 pub fn collinear(marks: &[f64], side: u32) -> Result<bool, u32> {
     tested::<Sheet>(marks)?;
     Ok(sheet::points_are_collinear(&side_of(marks, side)))
 }
 
-/// Rows: 5, 6, 7, 13, 14, 12, 9. From 7 to 12 they are `dlt_homography`'s own.
+/// Rows: 5, 6, 18, 7, 13, 14, 12, 9. From 7 to 12 they are `dlt_homography`'s own.
 /// Not to be compared where [`closeness_differs`] on either side.
 pub fn rows(marks: &[f64], rows: &mut [f64]) -> Result<(), u32> {
     let marks = tested::<Sheet>(marks)?;
@@ -115,7 +132,7 @@ pub fn rows(marks: &[f64], rows: &mut [f64]) -> Result<(), u32> {
     put(rows, &list)
 }
 
-/// A form's rows: 5, 6, 7, 12, 9. 7 and 12 are `dlt`'s own.
+/// A form's rows: 5, 6, 18, 7, 12, 9. 7 and 12 are `dlt`'s own.
 pub fn rows_form(marks: &[f64], rows: &mut [f64]) -> Result<(), u32> {
     let marks = tested::<Form>(marks)?;
     let list = form::dlt_rows_3d(marks).map_err(|error| match error {

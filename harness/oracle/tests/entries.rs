@@ -93,6 +93,13 @@ fn normalising() {
     // 12 comes before 9.
     assert_eq!(not_normalized(&both(&[[1.0, 1.0]; 4]), 0, 0), 12);
     assert_eq!(not_normalized(&both(&[[1.0, 1.0]; 4]), 0, 8), 12);
+    // 18 before both, whichever side is asked for.
+    let marks = pair(&[[1.0, 1.0]; 2], &LINE[..2]);
+    for side in [0, 1] {
+        assert_eq!(not_normalized(&marks, side, 4), 18);
+        assert_eq!(not_normalized(&marks, side, 0), 18);
+        assert_eq!(collinear(&marks, side), Err(18));
+    }
 }
 
 #[test]
@@ -190,9 +197,20 @@ fn rows_refused_in_order() {
     assert_eq!(no_rows(&both(&LINE), 0), 13);
     assert_eq!(no_rows(&pair(&SQUARE, &LINE), 72), 14);
     assert_eq!(no_rows(&pair(&SQUARE, &LINE), 0), 14);
-    // Without spread a side is on a line already: 12 doesn't come.
-    assert_eq!(no_rows(&pair(&[[1.0, 1.0]; 4], &SQUARE), 72), 13);
+    // Without spread a side is on a line already: 12 doesn't come. On the
+    // sheet's side that is one position: other pixels are 18.
+    assert_eq!(no_rows(&both(&[[1.0, 1.0]; 4]), 72), 13);
+    assert_eq!(no_rows(&pair(&[[1.0, 1.0]; 4], &SQUARE), 72), 18);
     assert_eq!(no_rows(&pair(&SQUARE, &[[1.0, 1.0]; 4]), 72), 14);
+    // 18 before 7, 13, 14 and 9.
+    let twice = [LINE[0], LINE[1], LINE[2], LINE[0]];
+    assert_eq!(no_rows(&pair(&twice[1..], &SQUARE[1..]), 0), 7);
+    assert_eq!(no_rows(&pair(&[LINE[0]; 3], &SQUARE[1..]), 0), 18);
+    assert_eq!(no_rows(&pair(&twice, &SQUARE), 0), 18);
+    assert_eq!(no_rows(&pair(&twice, &LINE), 0), 18);
+    let square_twice = [SQUARE[0], SQUARE[1], SQUARE[2], SQUARE[0]];
+    assert_eq!(no_rows(&pair(&square_twice, &LINE), 0), 18);
+    assert_eq!(no_rows(&both(&square_twice), 71), 9);
 }
 
 fn distance(h: &Model, mark: &Mark, ratio: f64) -> Result<Measure, u32> {
