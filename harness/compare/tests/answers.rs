@@ -22,12 +22,12 @@ fn the_numbers_file_is_todays() {
 
 #[test]
 fn the_sheet_file_is_todays() {
-    is_todays(sheets::FILE, sheets::records(), 302);
+    is_todays(sheets::FILE, sheets::records(), 380);
 }
 
 #[test]
 fn the_form_file_is_todays() {
-    is_todays(forms::FILE, forms::records(), 420);
+    is_todays(forms::FILE, forms::records(), 472);
 }
 
 /// Each kind shows all its refusals; a distance and a mark that is beyond are
@@ -37,8 +37,8 @@ fn the_form_file_shows_every_refusal() {
     let list = forms::records();
     let shows = |kind: u64, number: u64| list.iter().any(|r| (r[0], r[3]) == (kind, number));
     let expected = [
-        (1, vec![0, 5, 6, 9, 12]),
-        (2, vec![0, 5, 6, 7, 9, 12]),
+        (1, vec![0, 5, 6, 18, 9, 12]),
+        (2, vec![0, 5, 6, 18, 7, 9, 12]),
         (3, vec![0, 1, 6, 16, 17]),
         (4, vec![0]),
     ];
@@ -61,9 +61,9 @@ fn the_sheet_file_shows_every_refusal() {
         shown.insert((record[0], record[4]));
     }
     let expected = [
-        (1, vec![0, 5, 6, 9, 12]),
-        (2, vec![0, 5, 6]),
-        (3, vec![0, 5, 6, 7, 9, 13, 14]),
+        (1, vec![0, 5, 6, 18, 9, 12]),
+        (2, vec![0, 5, 6, 18]),
+        (3, vec![0, 5, 6, 18, 7, 9, 13, 14]),
         (4, vec![0, 1, 6, 16]),
     ];
     for (kind, numbers) in expected {

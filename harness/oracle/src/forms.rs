@@ -18,6 +18,7 @@
 //! and so are words 227 to 242 on a refusal.
 
 use crate::cases::Random;
+use crate::double_cases;
 use crate::entries;
 use crate::family_cases::{self, Cases};
 use crate::form_cases::{self, cube, distance_traps};
@@ -57,10 +58,10 @@ pub fn records() -> Vec<Record> {
     list
 }
 
-/// Short lists of marks, every third of the traps among them, and how many
-/// places more than they need are lent: one less where it is −1.
+/// Short lists of marks, every third of the traps among them and some that clash,
+/// and how many places more than they need are lent: one less where it is −1.
 fn lists(random: &mut Random) -> Vec<(Vec<f64>, isize)> {
-    let mut list: Vec<_> = form_cases::all_traps()
+    let mut list: Vec<_> = form_cases::traps()
         .into_iter()
         .filter(|marks| marks.len() <= MOST)
         .step_by(3)
@@ -75,6 +76,10 @@ fn lists(random: &mut Random) -> Vec<(Vec<f64>, isize)> {
             Form::few_marks(random, i, n),
             random.from_to(0, 2) as isize - 1,
         ));
+    }
+    for marks in double_cases::few::<Form>() {
+        list.push((marks.clone(), 0));
+        list.push((marks, -1));
     }
     list
 }

@@ -20,6 +20,7 @@
 //! point so near the limit of closeness that the platform's `hypot` matters.
 
 use crate::cases::Random;
+use crate::double_cases;
 use crate::entries;
 use crate::family_cases;
 use crate::ratio_cases;
@@ -137,6 +138,10 @@ fn normalisings(random: &mut Random) -> Vec<Record> {
         list.push(of_normalising(&marks, 0, marks.len() / 2 + 1));
         list.push(of_normalising(&marks, 1, marks.len() / 2));
     }
+    for marks in double_cases::few::<Sheet>() {
+        list.push(of_normalising(&marks, 0, marks.len() / 2 + 1));
+        list.push(of_normalising(&marks, 1, 0));
+    }
     list
 }
 
@@ -149,6 +154,10 @@ fn collinears(random: &mut Random) -> Vec<Record> {
         list.push(of_collinear(&some_marks(random, i), i as u64 % 2));
     }
     for marks in chosen(random, one_side_collinear) {
+        list.push(of_collinear(&marks, 0));
+        list.push(of_collinear(&marks, 1));
+    }
+    for marks in double_cases::few::<Sheet>() {
         list.push(of_collinear(&marks, 0));
         list.push(of_collinear(&marks, 1));
     }
@@ -177,6 +186,10 @@ fn rows(random: &mut Random) -> Vec<Record> {
     }
     for marks in chosen(random, |marks| rows_refused_by(marks) == 14) {
         list.push(of_rows(&marks, 91));
+    }
+    for marks in double_cases::few::<Sheet>() {
+        list.push(of_rows(&marks, 91));
+        list.push(of_rows(&marks, 0));
     }
     list
 }
