@@ -1,0 +1,452 @@
+//! Marks of one position and two pixels, at every entry that takes a list of
+//! marks: 18, directly after 6. Each call is held to the oracle, whose test is two
+//! loops over all pairs, and to what a case says of itself. A distance has one
+//! mark, and reads none twice.
+
+use compare::families::Proved;
+use compare::lists::compare_lent;
+use compare::{cases, for_each_family, is_long, junk_bytes, junk_words};
+use oracle::book::{Best, Book, Call, Options, State, trial_record};
+use oracle::cases::Random;
+use oracle::double_cases::{
+    self, Doubled, all_but_one, apart, flat, nearly_equal, pairs, the_most, threes,
+};
+use oracle::entries::{self, single};
+use oracle::family_cases::{Cases, identity};
+use oracle::pick_cases::Bytes;
+use oracle::{Form, Numbers, Sheet, Trial, whole};
+use proved::{form, pick};
+
+for_each_family!(
+    marks_that_stand_twice,
+    marks_that_stand_three_times,
+    nearly_equal_numbers,
+    other_positions,
+    the_most_marks,
+    random_lists,
+    long_random_lists,
+    few_marks,
+    pairs_of_faults,
+    not_the_runs_number,
+    bad_numbers,
+    too_many,
+);
+
+// The entries.
+
+/// What of a call is in order, besides its marks.
+struct Setting {
+    /// The run has ended; it has no winner.
+    ended: bool,
+    none: bool,
+    /// The stop list has the right length, the trial's record the right bytes, and
+    /// the lent lists have the places that they need.
+    stops: bool,
+    record: bool,
+    room: bool,
+}
+
+const GOOD: Setting = Setting {
+    ended: false,
+    none: false,
+    stops: true,
+    record: true,
+    room: true,
+};
+
+/// An entry's name, what it answers, 0 for what is no refusal, and the order in
+/// which it refuses.
+type Told = (&'static str, u32, &'static [u32]);
+
+trait Entries: Proved {
+    /// The entries that this family alone has.
+    fn others(marks: &[f64], setting: &Setting) -> Vec<Told>;
+}
+
+/// So many places, or one less.
+fn places(need: usize, setting: &Setting) -> usize {
+    need.saturating_sub(usize::from(!setting.room))
+}
+
+/// A call that lends a list, held to the oracle's; tells the refusal or 0.
+fn lent<T>(
+    room: usize,
+    marks: &[f64],
+    theirs: impl FnOnce(&mut [f64]) -> Result<T, u32>,
+    ours: impl FnOnce(&mut [f64]) -> u32,
+) -> u32 {
+    let answer = compare_lent(room, &|| format!("{marks:?}"), theirs, ours);
+    answer.err().unwrap_or(0)
+}
+
+/// The whole run over one good trial, held to the oracle's.
+fn whole_run(marks: &[f64], setting: &Setting) -> u32 {
+    let n = marks.len() / 4;
+    let mut case = Sheet::example();
+    case.options.min_inliers = 0;
+    case.marks = marks.to_vec();
+    case.stops = vec![9; if setting.stops { n + 1 } else { n }];
+    case.trials.truncate(1);
+    let bytes: Bytes = case.bytes();
+    let rooms = [88, places(4 * n, setting)];
+    let [mut winner, mut indices] = rooms.map(junk_bytes);
+    let number = whole::run(&bytes.inputs(), &mut winner, &mut indices);
+    let [mut ours, mut our_indices] = rooms.map(junk_bytes);
+    let inputs = [&bytes.options, &bytes.marks, &bytes.stops, &bytes.trials];
+    let inputs = inputs.map(Vec::as_slice);
+    let told = pick::salghemu_run(inputs, &mut ours, &mut our_indices);
+    assert_eq!(told, number, "{marks:?}");
+    assert!(ours == winner && our_indices == indices, "{marks:?}");
+    number
+}
+
+impl Entries for Sheet {
+    fn others(marks: &[f64], setting: &Setting) -> Vec<Told> {
+        let n = marks.len() / 4;
+        let normalising = |side| {
+            lent(
+                places(2 * n, setting),
+                marks,
+                |lent| entries::normalize(marks, side, lent),
+                |lent| proved::normalize_points_2d(marks, side, lent),
+            )
+        };
+        let collinear = |side| {
+            let theirs = entries::collinear(marks, side);
+            let told = theirs.map_or_else(|number| number, u32::from);
+            let ours = proved::points_are_collinear(marks, side);
+            assert_eq!(ours, told, "side {side} of {marks:?}");
+            theirs.err().unwrap_or(0)
+        };
+        let rows = lent(
+            places(18 * n, setting),
+            marks,
+            |lent| entries::rows(marks, lent),
+            |lent| proved::dlt_rows(marks, lent),
+        );
+        vec![
+            ("normalising", normalising(0), &[5, 6, 18, 12, 9]),
+            ("normalising pixels", normalising(1), &[5, 6, 18, 12, 9]),
+            ("collinear", collinear(0), &[5, 6, 18]),
+            ("collinear pixels", collinear(1), &[5, 6, 18]),
+            ("rows", rows, &[5, 6, 18, 7, 13, 14, 9]),
+            ("whole run", whole_run(marks, setting), &[5, 6, 18, 7, 8, 9]),
+        ]
+    }
+}
+
+impl Entries for Form {
+    fn others(marks: &[f64], setting: &Setting) -> Vec<Told> {
+        let n = marks.len() / 5;
+        let normalising = lent(
+            places(3 * n, setting),
+            marks,
+            |lent| entries::normalize_form(marks, lent),
+            |lent| form::normalize_points_3d(marks, lent),
+        );
+        let rows = lent(
+            places(24 * n, setting),
+            marks,
+            |lent| entries::rows_form(marks, lent),
+            |lent| form::dlt_rows(marks, lent),
+        );
+        vec![
+            ("normalising", normalising, &[5, 6, 18, 12, 9]),
+            ("rows", rows, &[5, 6, 18, 7, 12, 9]),
+        ]
+    }
+}
+
+/// A state of a run over n marks that has a winner.
+fn state<F: Entries>(n: usize, setting: &Setting) -> State<F> {
+    let case = F::example();
+    let best = Best {
+        count: 1,
+        number: 1,
+        rms: 0.5,
+        model: identity::<F>(),
+    };
+    let mut book = Book::opened(&case.options);
+    (book.read, book.scored) = (1, 1);
+    book.winner = Some(best).filter(|_| !setting.none);
+    if setting.ended {
+        book.bound = 1;
+    }
+    State {
+        family: case.family,
+        options: Options {
+            min_inliers: 0,
+            ..case.options
+        },
+        n: n as u64,
+        book,
+    }
+}
+
+/// Opening from records and from the types; tells the refusal or 0.
+fn opening<F: Entries>(marks: &[f64], stops: &[u32]) -> u32 {
+    let case = F::example();
+    let expected = State::open(case.family, case.options, marks, stops);
+    let number = expected.as_ref().err().copied().unwrap_or(0);
+    let mut theirs = junk_words(F::WORDS);
+    if let Ok(state) = &expected {
+        theirs.copy_from_slice(&state.words());
+    }
+    let [mut first, mut second] = [0; 2].map(|_| junk_words(F::WORDS));
+    let records: [&[u8]; 2] = [&case.options.record(), &case.family.record()];
+    let told = [
+        F::open(records, marks, stops, &mut first),
+        case.family
+            .open_options(&case.options, marks, stops, &mut second),
+    ];
+    assert_eq!(told, [number; 2], "{marks:?}");
+    assert!(first == theirs && second == theirs, "{marks:?}");
+    number
+}
+
+/// A good trial on this state; tells the refusal or 0.
+fn trial<F: Entries>(mut state: State<F>, marks: &[f64], stops: &[u32], setting: &Setting) -> u32 {
+    let mut record = trial_record(&Trial {
+        fit: Some(identity::<F>()),
+        refit: None,
+    });
+    record[0] += u8::from(!setting.record);
+    let mut out = junk_words(F::WORDS + 4);
+    let words = state.words();
+    assert_eq!(F::trial(&words, &record, marks, stops, &mut out), 0);
+    let answer = state.trial(&Call {
+        record: &record,
+        marks,
+        stops,
+    });
+    let expected = [state.words(), answer.words().to_vec()].concat();
+    assert_eq!(out, expected, "{marks:?}");
+    answer.number()
+}
+
+/// The winner's indices; tells the refusal or 0.
+fn indices<F: Entries>(state: &State<F>, marks: &[f64], room: usize) -> u32 {
+    let expected = state.winner_indices(marks, room);
+    let mut ours = vec![u32::MAX; room];
+    let told = F::winner_indices(&state.words(), marks, &mut ours);
+    let mut theirs = vec![u32::MAX; room];
+    match &expected {
+        Ok(list) => {
+            theirs[..list.len()].copy_from_slice(list);
+            assert_eq!(told, list.len() as u64, "{marks:?}");
+        }
+        Err(number) => assert_eq!(told, (1 << 32) + u64::from(*number), "{marks:?}"),
+    }
+    assert_eq!(ours, theirs, "{marks:?}");
+    expected.err().unwrap_or(0)
+}
+
+/// What every entry answers for the marks.
+fn told<F: Entries>(marks: &[f64], setting: &Setting) -> Vec<Told> {
+    let n = marks.len() / F::WIDTH;
+    let stops = vec![9; if setting.stops { n + 1 } else { n }];
+    let state = state::<F>(n, setting);
+    let places = places(n, setting);
+    let mut list = F::others(marks, setting);
+    list.push(("opening", opening::<F>(marks, &stops), &[5, 6, 18, 7, 8]));
+    list.push((
+        "indices",
+        indices(&state, marks, places),
+        &[11, 5, 6, 18, 7, 9],
+    ));
+    list.push((
+        "trial",
+        trial(state, marks, &stops, setting),
+        &[10, 5, 6, 18, 7, 8, 1],
+    ));
+    list
+}
+
+/// With all else in order, every entry answers 18 where marks clash, and none
+/// where they don't.
+fn check<F: Entries>(marks: &[f64], clash: bool) {
+    for (entry, number, _) in told::<F>(marks, &GOOD) {
+        let about = &marks[..marks.len().min(60)];
+        assert_eq!(number == 18, clash, "{entry}: {number}, {about:?}");
+    }
+}
+
+fn check_all<F: Entries>(lists: Vec<Doubled>) {
+    for (marks, clash) in lists {
+        check::<F>(&marks, clash);
+    }
+}
+
+// Lists by hand.
+
+/// At the ends, next to each other and far apart; of short lists at all places.
+/// Around the lengths at which a list is halved unevenly.
+fn marks_that_stand_twice<F: Entries>() {
+    check_all::<F>(pairs::<F>(&[2, 3, 4, 5, 6, 7, 8]));
+    check_all::<F>(pairs::<F>(&[9, 12, 15, 16, 17, 31, 32, 33, 60]));
+    check_all::<F>(pairs::<F>(&[63, 64, 65, 100, 127, 128, 129, 333]));
+    check_all::<F>(pairs::<F>(&[F::MOST - 1, F::MOST]));
+}
+
+fn marks_that_stand_three_times<F: Entries>() {
+    check_all::<F>(threes::<F>());
+}
+
+/// -0 is 0 at every place, and the double next to a number is another.
+fn nearly_equal_numbers<F: Entries>() {
+    check_all::<F>(nearly_equal::<F>());
+}
+
+/// One coordinate is another, or they are the same in another order.
+fn other_positions<F: Entries>() {
+    for n in [2, 3, F::FEWEST, 7, 100, 1000] {
+        check_all::<F>(all_but_one::<F>(n));
+    }
+}
+
+fn the_most_marks<F: Entries>() {
+    check_all::<F>(the_most::<F>());
+}
+
+/// Few marks that clash are 18, and others are 7 where that is asked.
+fn few_marks<F: Entries>() {
+    for n in 2..F::FEWEST {
+        for (marks, clash) in pairs::<F>(&[n]) {
+            for (entry, number, order) in told::<F>(&marks, &GOOD) {
+                let without = if order.contains(&7) { 7 } else { number };
+                let expected = if clash { 18 } else { without };
+                assert_eq!(number, expected, "{entry} of {marks:?}");
+            }
+        }
+    }
+}
+
+// Random lists.
+
+/// Compares one; tells whether marks clash, by the oracle's loops.
+fn random_list<F: Entries>(random: &mut Random, n: usize) -> bool {
+    let marks = double_cases::random::<F>(random, n);
+    let clash = single(F::Mark::chunks(&marks).0).is_err();
+    check::<F>(&marks, clash);
+    clash
+}
+
+/// Every length from 0 to 60, many marks on few positions.
+fn random_lists<F: Entries>() {
+    let random = &mut Random::new(81);
+    let mut times = [[0; 2]; 61];
+    let count = cases(12_000);
+    for i in 0..count {
+        let clash = random_list::<F>(random, i % 61);
+        times[i % 61][usize::from(clash)] += 1;
+    }
+    println!("doubles: {times:?}");
+    if is_long(count) {
+        let both = |times: &[usize; 2]| times[0] > 0 && times[1] > 0;
+        assert!(times[2..].iter().all(both));
+        assert!(times[..2].iter().all(|times| times[0] > 0 && times[1] == 0));
+    }
+}
+
+fn long_random_lists<F: Entries>() {
+    let random = &mut Random::new(82);
+    let mut times = [0; 2];
+    for _ in 0..cases(60).min(6_000) {
+        let n = random.from_to(61, F::MOST as i64) as usize;
+        times[usize::from(random_list::<F>(random, n))] += 1;
+    }
+    println!("doubles, long: {times:?}");
+}
+
+// The orders.
+
+/// Every fault that a call may have, in no entry's order.
+const FAULTS: [u32; 12] = [10, 11, 5, 6, 18, 7, 13, 14, 12, 8, 1, 9];
+
+/// Marks with these faults.
+fn faulty<F: Entries>(bad: &dyn Fn(u32) -> bool) -> Vec<f64> {
+    let coordinates = F::WIDTH - 2;
+    let n = F::FEWEST + 1 - 2 * usize::from(bad(7));
+    let mut marks = apart::<F>(n);
+    for mark in &mut marks {
+        let mark = mark.as_mut();
+        if bad(13) {
+            mark[1..coordinates].fill(3.0);
+        }
+        if bad(14) {
+            mark[coordinates] = 3.0;
+        }
+    }
+    if bad(12) {
+        marks = vec![marks[0]; n];
+    }
+    if bad(18) {
+        marks[n - 1] = marks[0];
+        marks[n - 1].as_mut()[F::WIDTH - 1] += 1.0;
+    }
+    let mut list = flat(&marks);
+    if bad(6) {
+        list[F::WIDTH + 1] = f64::NAN;
+    }
+    list.extend(bad(5).then_some(0.0));
+    list
+}
+
+/// Every two faults, at every entry: the first in its order is told. Marks at one
+/// position are on a line too.
+fn pairs_of_faults<F: Entries>() {
+    for (place, &first) in FAULTS.iter().enumerate() {
+        for &second in &FAULTS[place..] {
+            let bad = |number: u32| first == number || second == number;
+            let setting = Setting {
+                ended: bad(10),
+                none: bad(11),
+                stops: !bad(8),
+                record: !bad(1),
+                room: !bad(9),
+            };
+            let marks = faulty::<F>(&bad);
+            for (entry, number, order) in told::<F>(&marks, &setting) {
+                let holds = |k: &&u32| bad(**k) || ([13, 14].contains(*k) && bad(12));
+                let expected = order.iter().find(holds).copied().unwrap_or(0);
+                assert_eq!(number, expected, "{entry}: {first} and {second}");
+            }
+        }
+    }
+}
+
+/// Another number of marks than the run's is 5, whether they clash or not.
+fn not_the_runs_number<F: Entries>() {
+    for n in [F::FEWEST - 1, F::FEWEST, 9] {
+        for (marks, _) in pairs::<F>(&[n]) {
+            for other in [n - 1, n + 1] {
+                let (state, stops) = (state::<F>(other, &GOOD), vec![9; n + 1]);
+                assert_eq!(indices(&state, &marks, n), 5);
+                assert_eq!(trial(state, &marks, &stops, &GOOD), 5);
+            }
+        }
+    }
+}
+
+/// A bad number anywhere is 6, in a mark that clashes too.
+fn bad_numbers<F: Entries>() {
+    for (marks, _) in pairs::<F>(&[F::FEWEST]) {
+        for place in 0..marks.len() {
+            let mut marks = marks.clone();
+            marks[place] = [f64::NAN, f64::INFINITY, -2e9][place % 3];
+            for (entry, number, _) in told::<F>(&marks, &GOOD) {
+                assert_eq!(number, 6, "{entry} of {marks:?}");
+            }
+        }
+    }
+}
+
+/// More than the most marks are 5, though they clash.
+fn too_many<F: Entries>() {
+    let mut marks = apart::<F>(F::MOST + 1);
+    marks[F::MOST] = marks[0];
+    marks[F::MOST].as_mut()[F::WIDTH - 1] += 1.0;
+    for (entry, number, _) in told::<F>(&flat(&marks), &GOOD) {
+        assert_eq!(number, 5, "{entry}");
+    }
+}
