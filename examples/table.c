@@ -10,7 +10,8 @@ static uint8_t winner[SALGHEMU_WINNER_BYTES];
 static uint8_t indices[SALGHEMU_INDEX_BYTES * SALGHEMU_MOST_MARKS];
 
 static const char *const names[] = {"", "RECORD", "THRESH", "CONFIDENCE", "ITERS", "SHAPE",
-    "POINT", "FEW", "STOPS", "ROOM", "ENDED", "NONE", [SALGHEMU_RATIO] = "RATIO"};
+    "POINT", "FEW", "STOPS", "ROOM", "ENDED", "NONE", [SALGHEMU_RATIO] = "RATIO",
+    [SALGHEMU_DOUBLE] = "DOUBLE"};
 
 static size_t load(const char *folder, const char *name, uint8_t *to, size_t room)
 {
@@ -51,7 +52,7 @@ int main(int count, char **words)
     uint32_t refusal = salghemu_run(options, options_len, marks, marks_len, stops, stops_len,
         trials, trials_len, winner, sizeof winner, indices, sizeof indices);
     if (refusal != 0) {
-        const char *name = refusal <= SALGHEMU_RATIO ? names[refusal] : NULL;
+        const char *name = refusal <= SALGHEMU_DOUBLE ? names[refusal] : NULL;
         printf("refused: %s\n", name ? name : "unknown");
         return 1;
     }

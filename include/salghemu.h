@@ -68,7 +68,10 @@ enum salghemu_refusal {
     SALGHEMU_RATIO = 16,
     /* A number of a standing form's camera is not finite, or of magnitude
        above 1e9; no function here answers it. */
-    SALGHEMU_CAMERA = 17
+    SALGHEMU_CAMERA = 17,
+    /* Two marks have one position and two pixels. The same mark twice is no
+       fault. */
+    SALGHEMU_DOUBLE = 18
 };
 
 /*
@@ -93,8 +96,8 @@ enum salghemu_refusal {
  *          that agrees, ascending, and the winner's count says how many.
  *
  * It returns 0, or a refusal; of several that hold, the first in this order:
- * 1 for the options, 2 to 4, 16, 5 to 8, 1 for the length of the trial list, 9,
- * 1 for a trial that is reached, 11. Refused, it writes nothing. Bytes past
+ * 1 for the options, 2 to 4, 16, 5, 6, 18, 7, 8, 1 for the length of the trial
+ * list, 9, 1 for a trial that is reached, 11. Refused, it writes nothing. Bytes past
  * those said above stay as they were, and trials behind the end are not looked
  * at.
  *

@@ -1,5 +1,6 @@
 /* The writers' refusals by the header's names, with NULL for what is empty, and
-   the run's of options by their length and their ratio.
+   the run's of options by their length and their ratio, and of marks of one
+   position and two pixels.
    Exits with the line of the first that differs, or 0. */
 #include <math.h>
 #include <string.h>
@@ -12,6 +13,43 @@
 static uint32_t run(const uint8_t *options, size_t len)
 {
     return salghemu_run(options, len, NULL, 0, NULL, 0, NULL, 0, NULL, 0, NULL, 0);
+}
+
+static uint8_t options[SALGHEMU_OPTIONS_BYTES], marks[4 * SALGHEMU_MARK_BYTES];
+
+/* What the run answers to so many bytes of the marks; it has no stops. */
+static uint32_t run_marks(size_t len)
+{
+    return salghemu_run(options, sizeof options, marks, len, NULL, 0, NULL, 0, NULL, 0, NULL, 0);
+}
+
+static uint32_t mark(int place, double x, double y, double u, double v)
+{
+    return salghemu_write_mark(x, y, u, v, marks + place * SALGHEMU_MARK_BYTES, SALGHEMU_MARK_BYTES);
+}
+
+/* A mark by itself is written whatever the others are. */
+static int doubles(void)
+{
+    const size_t all = sizeof marks, two = 2 * SALGHEMU_MARK_BYTES;
+    IS(0, salghemu_write_options(2, 0.5, 1, 4, 1, 1, options, sizeof options));
+    IS(0, mark(0, 0.0, 5, 0.0, 7));
+    IS(0, mark(1, -0.0, 5, 1, 7));
+    IS(SALGHEMU_DOUBLE, run_marks(two));
+    IS(0, mark(1, 0.0, 5, 0.0, 8));
+    IS(SALGHEMU_DOUBLE, run_marks(two));
+    IS(0, mark(1, -0.0, 5, -0.0, 7));
+    IS(SALGHEMU_FEW, run_marks(two));
+    IS(0, mark(1, 1, 5, 1, 7));
+    IS(0, mark(2, 0.0, 6, 1, 7));
+    IS(0, mark(3, 0.0, 5, 0.0, 7));
+    IS(SALGHEMU_STOPS, run_marks(all));
+    IS(0, mark(3, 0.0, 5, 5e-324, 7));
+    IS(SALGHEMU_DOUBLE, run_marks(all));
+    IS(SALGHEMU_SHAPE, run_marks(all - 1));
+    memset(marks, 0xff, sizeof(double));
+    IS(SALGHEMU_POINT, run_marks(all));
+    return 0;
 }
 
 int main(void)
@@ -43,5 +81,5 @@ int main(void)
     IS(SALGHEMU_RECORD, salghemu_write_trial(1, 1, zeros, 10, zeros, 8, out, sizeof out));
     IS(SALGHEMU_RECORD, salghemu_write_trial(0, 0, zeros, 9, minus, 9, out, sizeof out));
     IS(SALGHEMU_ROOM, salghemu_write_trial(1, 1, zeros, 9, zeros, 9, out, sizeof out - 1));
-    return 0;
+    return doubles();
 }

@@ -73,8 +73,8 @@ fn fresh(name: &str) -> PathBuf {
 }
 
 /// The sheet of examples/ gives what stands beside it, also with options that
-/// have no ratio; without one of its files, or with a ratio of 0, it gives the
-/// refusal's name.
+/// have no ratio; without one of its files, with a ratio of 0, or with a mark at
+/// two pixels, it gives the refusal's name.
 #[test]
 fn the_sample_prints() {
     let (sheet, files) = example::files();
@@ -104,6 +104,13 @@ fn the_sample_prints() {
     let zero = [short.as_slice(), &[0; 8]].concat();
     fs::write(folder.join("options.bin"), zero).expect("a file");
     assert_eq!(printed(&TABLE, &folder), "refused: RATIO\n");
+
+    // The middle mark at the first one's position.
+    let mut doubled = example::sheet();
+    doubled.marks.copy_within(..2, 16);
+    fs::write(folder.join("options.bin"), &short).expect("a file");
+    fs::write(folder.join("marks.bin"), doubled.bytes().marks).expect("a file");
+    assert_eq!(printed(&TABLE, &folder), "refused: DOUBLE\n");
     fs::remove_dir_all(&folder).expect("the folder goes");
 }
 
