@@ -3,7 +3,9 @@
 //! The program is target/bin/pickmarks of the repository, or the one that
 //! PICKMARKS names.
 
+use oracle::Sheet;
 use oracle::cases::Random;
+use oracle::double_cases::pairs;
 use oracle::example;
 use oracle::pick_cases::{Bytes, any_stops, damaged, reference, runs};
 use oracle::ratio_cases;
@@ -237,6 +239,41 @@ fn ratios() {
         assert_eq!(text, format!("refused {number}\n"), "{ratio:e}");
         case.options.max_iters = 0;
         assert_eq!(compare(&folder, &all(case.bytes())), "refused 4\n");
+    }
+}
+
+/// A stored file in which a mark stands at two pixels: 18 and nothing else is
+/// printed, and the file stays as it was. The same mark twice is no fault.
+#[test]
+fn a_mark_at_two_pixels() {
+    let folder = Folder::new("doubled");
+    let mut case = example::sheet();
+    case.stops.push(9);
+    case.marks.extend_from_within(4..8);
+    let text = compare(&folder, &all(case.bytes()));
+    assert!(
+        text.ends_with("indices 0 1 2 3 5\ncounts 4 1 1 2\n"),
+        "{text}"
+    );
+    for place in [22, 23] {
+        let mut doubled = case.clone();
+        doubled.marks[place] += 0.5;
+        let files = all(doubled.bytes());
+        assert_eq!(compare(&folder, &files), "refused 18\n");
+        let stored = fs::read(folder.0.join("marks.bin")).expect("a file");
+        assert_eq!(Some(stored), files[1]);
+        // Before 8, and after 6.
+        doubled.stops.clear();
+        assert_eq!(compare(&folder, &all(doubled.bytes())), "refused 18\n");
+        doubled.marks[0] = f64::NAN;
+        assert_eq!(compare(&folder, &all(doubled.bytes())), "refused 6\n");
+    }
+    let most = pairs::<Sheet>(&[2000]);
+    for (marks, clash) in most.into_iter().step_by(5) {
+        case.marks = marks;
+        case.stops = vec![9; 2001];
+        let text = compare(&folder, &all(case.bytes()));
+        assert_eq!(text == "refused 18\n", clash);
     }
 }
 
