@@ -9,7 +9,7 @@ use compare::{cases, for_each_family, is_long, junk_bytes, junk_words};
 use oracle::book::{Best, Book, Call, Options, State, trial_record};
 use oracle::cases::Random;
 use oracle::double_cases::{
-    self, Doubled, all_but_one, apart, flat, nearly_equal, pairs, the_most, threes,
+    self, Doubled, FOUR, SIX, all_but_one, apart, flat, nearly_equal, pairs, the_most, threes,
 };
 use oracle::entries::{self, single};
 use oracle::family_cases::{Cases, identity};
@@ -278,6 +278,17 @@ fn check_all<F: Entries>(lists: Vec<Doubled>) {
 }
 
 // Lists by hand.
+
+/// Those of docs/DIFFERENCES.md, to which the originals answer something.
+#[test]
+fn the_smallest_lists() {
+    for n in 2..=4 {
+        check::<Sheet>(&flat(&FOUR[..n]), true);
+    }
+    for n in 2..=6 {
+        check::<Form>(&flat(&SIX[..n]), true);
+    }
+}
 
 /// At the ends, next to each other and far apart; of short lists at all places.
 /// Around the lengths at which a list is halved unevenly.

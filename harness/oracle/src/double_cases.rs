@@ -5,9 +5,29 @@
 use crate::cases::{Random, step};
 use crate::family::{Family, Numbers};
 use crate::family_cases::{clash, settle};
+use crate::{FormMark, Mark};
 
 /// A flat list of marks, and whether two of them clash.
 pub type Doubled = (Vec<f64>, bool);
+
+/// The origin seen at two pixels, and the ends of both axes: the smallest list of a
+/// run that clashes, whose first two and first three do too.
+pub const FOUR: [Mark; 4] = [
+    [0.0, 0.0, 0.0, 0.0],
+    [0.0, 0.0, 1.0, 0.0],
+    [1.0, 0.0, 1.0, 0.0],
+    [0.0, 1.0, 0.0, 1.0],
+];
+
+/// The same of a form, and two points more.
+pub const SIX: [FormMark; 6] = [
+    [0.0, 0.0, 0.0, 0.0, 0.0],
+    [0.0, 0.0, 0.0, 1.0, 0.0],
+    [1.0, 0.0, 0.0, 1.0, 0.0],
+    [0.0, 1.0, 0.0, 0.0, 1.0],
+    [0.0, 0.0, 1.0, 0.0, 0.0],
+    [1.0, 1.0, 0.0, 1.0, 1.0],
+];
 
 /// How many of a mark's numbers say where it is; the pixel is behind them.
 const fn coordinates<F: Family>() -> usize {

@@ -3,7 +3,9 @@
 //! such lists, which document 02's order 6 has refused.
 
 use oracle::cases::Random;
-use oracle::double_cases::{Doubled, all_but_one, nearly_equal, pairs, random, the_most, threes};
+use oracle::double_cases::{
+    Doubled, FOUR, SIX, all_but_one, nearly_equal, pairs, random, the_most, threes,
+};
 use oracle::entries::single;
 use oracle::family_cases::{Cases, clash, identity, settle};
 use oracle::form_cases::PLAIN;
@@ -84,24 +86,6 @@ fn made_and_settled_forms() {
 }
 
 // What the originals answer: docs/DIFFERENCES.md has these lists.
-
-/// The origin seen at two pixels, and the ends of both axes.
-const FOUR: [Mark; 4] = [
-    [0.0, 0.0, 0.0, 0.0],
-    [0.0, 0.0, 1.0, 0.0],
-    [1.0, 0.0, 1.0, 0.0],
-    [0.0, 1.0, 0.0, 1.0],
-];
-
-/// The same of a form, and two points more.
-const SIX: [FormMark; 6] = [
-    [0.0, 0.0, 0.0, 0.0, 0.0],
-    [0.0, 0.0, 0.0, 1.0, 0.0],
-    [1.0, 0.0, 0.0, 1.0, 0.0],
-    [0.0, 1.0, 0.0, 0.0, 1.0],
-    [0.0, 0.0, 1.0, 0.0, 0.0],
-    [1.0, 1.0, 0.0, 1.0, 1.0],
-];
 
 fn sides(marks: &[Mark]) -> [Vec<Point>; 2] {
     [0, 2].map(|k| marks.iter().map(|m| [m[k], m[k + 1]]).collect())
