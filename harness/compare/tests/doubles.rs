@@ -13,7 +13,7 @@ use oracle::double_cases::{
 };
 use oracle::entries::{self, single};
 use oracle::family_cases::{Cases, identity};
-use oracle::pick_cases::Bytes;
+use oracle::pick_cases::{Bytes, runs};
 use oracle::{Form, Numbers, Sheet, Trial, whole};
 use proved::{form, pick};
 
@@ -54,13 +54,24 @@ const GOOD: Setting = Setting {
     room: true,
 };
 
-/// An entry's name, what it answers, 0 for what is no refusal, and the order in
-/// which it refuses.
-type Told = (&'static str, u32, &'static [u32]);
+/// An entry by name, the order in which it refuses, and the call: what it answers,
+/// 0 for what is no refusal.
+struct Entry<'a> {
+    name: &'static str,
+    order: &'static [u32],
+    call: Box<dyn Fn() -> u32 + 'a>,
+}
+
+impl<'a> Entry<'a> {
+    fn new(name: &'static str, order: &'static [u32], call: impl Fn() -> u32 + 'a) -> Self {
+        let call = Box::new(call);
+        Self { name, order, call }
+    }
+}
 
 trait Entries: Proved {
     /// The entries that this family alone has.
-    fn others(marks: &[f64], setting: &Setting) -> Vec<Told>;
+    fn others<'a>(marks: &'a [f64], setting: &'a Setting) -> Vec<Entry<'a>>;
 }
 
 /// So many places, or one less.
@@ -100,10 +111,18 @@ fn whole_run(marks: &[f64], setting: &Setting) -> u32 {
     number
 }
 
+fn collinear(marks: &[f64], side: u32) -> u32 {
+    let theirs = entries::collinear(marks, side);
+    let told = theirs.map_or_else(|number| number, u32::from);
+    let ours = proved::points_are_collinear(marks, side);
+    assert_eq!(ours, told, "side {side} of {marks:?}");
+    theirs.err().unwrap_or(0)
+}
+
 impl Entries for Sheet {
-    fn others(marks: &[f64], setting: &Setting) -> Vec<Told> {
+    fn others<'a>(marks: &'a [f64], setting: &'a Setting) -> Vec<Entry<'a>> {
         let n = marks.len() / 4;
-        let normalising = |side| {
+        let normalising = move |side| {
             lent(
                 places(2 * n, setting),
                 marks,
@@ -111,48 +130,48 @@ impl Entries for Sheet {
                 |lent| proved::normalize_points_2d(marks, side, lent),
             )
         };
-        let collinear = |side| {
-            let theirs = entries::collinear(marks, side);
-            let told = theirs.map_or_else(|number| number, u32::from);
-            let ours = proved::points_are_collinear(marks, side);
-            assert_eq!(ours, told, "side {side} of {marks:?}");
-            theirs.err().unwrap_or(0)
+        let rows = move || {
+            lent(
+                places(18 * n, setting),
+                marks,
+                |lent| entries::rows(marks, lent),
+                |lent| proved::dlt_rows(marks, lent),
+            )
         };
-        let rows = lent(
-            places(18 * n, setting),
-            marks,
-            |lent| entries::rows(marks, lent),
-            |lent| proved::dlt_rows(marks, lent),
-        );
+        let run = || whole_run(marks, setting);
         vec![
-            ("normalising", normalising(0), &[5, 6, 18, 12, 9]),
-            ("normalising pixels", normalising(1), &[5, 6, 18, 12, 9]),
-            ("collinear", collinear(0), &[5, 6, 18]),
-            ("collinear pixels", collinear(1), &[5, 6, 18]),
-            ("rows", rows, &[5, 6, 18, 7, 13, 14, 9]),
-            ("whole run", whole_run(marks, setting), &[5, 6, 18, 7, 8, 9]),
+            Entry::new("normalising", &[5, 6, 18, 12, 9], move || normalising(0)),
+            Entry::new("of pixels", &[5, 6, 18, 12, 9], move || normalising(1)),
+            Entry::new("collinear", &[5, 6, 18], || collinear(marks, 0)),
+            Entry::new("pixels collinear", &[5, 6, 18], || collinear(marks, 1)),
+            Entry::new("rows", &[5, 6, 18, 7, 13, 14, 9], rows),
+            Entry::new("whole run", &[5, 6, 18, 7, 8, 9], run),
         ]
     }
 }
 
 impl Entries for Form {
-    fn others(marks: &[f64], setting: &Setting) -> Vec<Told> {
+    fn others<'a>(marks: &'a [f64], setting: &'a Setting) -> Vec<Entry<'a>> {
         let n = marks.len() / 5;
-        let normalising = lent(
-            places(3 * n, setting),
-            marks,
-            |lent| entries::normalize_form(marks, lent),
-            |lent| form::normalize_points_3d(marks, lent),
-        );
-        let rows = lent(
-            places(24 * n, setting),
-            marks,
-            |lent| entries::rows_form(marks, lent),
-            |lent| form::dlt_rows(marks, lent),
-        );
+        let normalising = move || {
+            lent(
+                places(3 * n, setting),
+                marks,
+                |lent| entries::normalize_form(marks, lent),
+                |lent| form::normalize_points_3d(marks, lent),
+            )
+        };
+        let rows = move || {
+            lent(
+                places(24 * n, setting),
+                marks,
+                |lent| entries::rows_form(marks, lent),
+                |lent| form::dlt_rows(marks, lent),
+            )
+        };
         vec![
-            ("normalising", normalising, &[5, 6, 18, 12, 9]),
-            ("rows", rows, &[5, 6, 18, 7, 12, 9]),
+            Entry::new("normalising", &[5, 6, 18, 12, 9], normalising),
+            Entry::new("rows", &[5, 6, 18, 7, 12, 9], rows),
         ]
     }
 }
@@ -241,33 +260,46 @@ fn indices<F: Entries>(state: &State<F>, marks: &[f64], room: usize) -> u32 {
     expected.err().unwrap_or(0)
 }
 
-/// What every entry answers for the marks.
-fn told<F: Entries>(marks: &[f64], setting: &Setting) -> Vec<Told> {
+/// Every entry over these marks.
+fn all<'a, F: Entries>(marks: &'a [f64], setting: &'a Setting) -> Vec<Entry<'a>> {
     let n = marks.len() / F::WIDTH;
-    let stops = vec![9; if setting.stops { n + 1 } else { n }];
-    let state = state::<F>(n, setting);
-    let places = places(n, setting);
+    let stops = move || vec![9; if setting.stops { n + 1 } else { n }];
+    let state = move || state::<F>(n, setting);
     let mut list = F::others(marks, setting);
-    list.push(("opening", opening::<F>(marks, &stops), &[5, 6, 18, 7, 8]));
-    list.push((
-        "indices",
-        indices(&state, marks, places),
-        &[11, 5, 6, 18, 7, 9],
-    ));
-    list.push((
-        "trial",
-        trial(state, marks, &stops, setting),
-        &[10, 5, 6, 18, 7, 8, 1],
-    ));
+    list.extend([
+        Entry::new("opening", &[5, 6, 18, 7, 8], move || {
+            opening::<F>(marks, &stops())
+        }),
+        Entry::new("trial", &[10, 5, 6, 18, 7, 8, 1], move || {
+            trial(state(), marks, &stops(), setting)
+        }),
+        Entry::new("indices", &[11, 5, 6, 18, 7, 9], move || {
+            indices(&state(), marks, places(n, setting))
+        }),
+    ]);
     list
 }
 
 /// With all else in order, every entry answers 18 where marks clash, and none
 /// where they don't.
 fn check<F: Entries>(marks: &[f64], clash: bool) {
-    for (entry, number, _) in told::<F>(marks, &GOOD) {
-        let about = &marks[..marks.len().min(60)];
-        assert_eq!(number == 18, clash, "{entry}: {number}, {about:?}");
+    for entry in all::<F>(marks, &GOOD) {
+        is_18(&entry, marks, clash);
+    }
+}
+
+fn is_18(entry: &Entry, marks: &[f64], clash: bool) {
+    let number = (entry.call)();
+    let about = &marks[..marks.len().min(60)];
+    assert_eq!(number == 18, clash, "{}: {number}, {about:?}", entry.name);
+}
+
+/// The same of long lists, which the oracle's loops take long for: one entry each,
+/// in turn.
+fn check_long<F: Entries>(lists: impl IntoIterator<Item = Doubled>) {
+    for (turn, (marks, clash)) in lists.into_iter().enumerate() {
+        let entries = all::<F>(&marks, &GOOD);
+        is_18(&entries[turn % entries.len()], &marks, clash);
     }
 }
 
@@ -296,7 +328,7 @@ fn marks_that_stand_twice<F: Entries>() {
     check_all::<F>(pairs::<F>(&[2, 3, 4, 5, 6, 7, 8]));
     check_all::<F>(pairs::<F>(&[9, 12, 15, 16, 17, 31, 32, 33, 60]));
     check_all::<F>(pairs::<F>(&[63, 64, 65, 100, 127, 128, 129, 333]));
-    check_all::<F>(pairs::<F>(&[F::MOST - 1, F::MOST]));
+    check_long::<F>(pairs::<F>(&[F::MOST - 1, F::MOST]));
 }
 
 fn marks_that_stand_three_times<F: Entries>() {
@@ -316,17 +348,18 @@ fn other_positions<F: Entries>() {
 }
 
 fn the_most_marks<F: Entries>() {
-    check_all::<F>(the_most::<F>());
+    check_long::<F>(the_most::<F>());
 }
 
 /// Few marks that clash are 18, and others are 7 where that is asked.
 fn few_marks<F: Entries>() {
     for n in 2..F::FEWEST {
         for (marks, clash) in pairs::<F>(&[n]) {
-            for (entry, number, order) in told::<F>(&marks, &GOOD) {
+            for Entry { name, order, call } in all::<F>(&marks, &GOOD) {
+                let number = call();
                 let without = if order.contains(&7) { 7 } else { number };
                 let expected = if clash { 18 } else { without };
-                assert_eq!(number, expected, "{entry} of {marks:?}");
+                assert_eq!(number, expected, "{name} of {marks:?}");
             }
         }
     }
@@ -334,12 +367,11 @@ fn few_marks<F: Entries>() {
 
 // Random lists.
 
-/// Compares one; tells whether marks clash, by the oracle's loops.
-fn random_list<F: Entries>(random: &mut Random, n: usize) -> bool {
+/// One of n marks, and whether any clash, by the oracle's loops.
+fn random_list<F: Entries>(random: &mut Random, n: usize) -> Doubled {
     let marks = double_cases::random::<F>(random, n);
     let clash = single(F::Mark::chunks(&marks).0).is_err();
-    check::<F>(&marks, clash);
-    clash
+    (marks, clash)
 }
 
 /// Every length from 0 to 60, many marks on few positions.
@@ -348,7 +380,8 @@ fn random_lists<F: Entries>() {
     let mut times = [[0; 2]; 61];
     let count = cases(12_000);
     for i in 0..count {
-        let clash = random_list::<F>(random, i % 61);
+        let (marks, clash) = random_list::<F>(random, i % 61);
+        check::<F>(&marks, clash);
         times[i % 61][usize::from(clash)] += 1;
     }
     println!("doubles: {times:?}");
@@ -362,10 +395,13 @@ fn random_lists<F: Entries>() {
 fn long_random_lists<F: Entries>() {
     let random = &mut Random::new(82);
     let mut times = [0; 2];
-    for _ in 0..cases(60).min(6_000) {
+    let lists = (0..runs(400, 50)).map(|_| {
         let n = random.from_to(61, F::MOST as i64) as usize;
-        times[usize::from(random_list::<F>(random, n))] += 1;
-    }
+        let list = random_list::<F>(random, n);
+        times[usize::from(list.1)] += 1;
+        list
+    });
+    check_long::<F>(lists);
     println!("doubles, long: {times:?}");
 }
 
@@ -417,10 +453,10 @@ fn pairs_of_faults<F: Entries>() {
                 room: !bad(9),
             };
             let marks = faulty::<F>(&bad);
-            for (entry, number, order) in told::<F>(&marks, &setting) {
+            for Entry { name, order, call } in all::<F>(&marks, &setting) {
                 let holds = |k: &&u32| bad(**k) || ([13, 14].contains(*k) && bad(12));
                 let expected = order.iter().find(holds).copied().unwrap_or(0);
-                assert_eq!(number, expected, "{entry}: {first} and {second}");
+                assert_eq!(call(), expected, "{name}: {first} and {second}");
             }
         }
     }
@@ -445,8 +481,8 @@ fn bad_numbers<F: Entries>() {
         for place in 0..marks.len() {
             let mut marks = marks.clone();
             marks[place] = [f64::NAN, f64::INFINITY, -2e9][place % 3];
-            for (entry, number, _) in told::<F>(&marks, &GOOD) {
-                assert_eq!(number, 6, "{entry} of {marks:?}");
+            for Entry { name, call, .. } in all::<F>(&marks, &GOOD) {
+                assert_eq!(call(), 6, "{name} of {marks:?}");
             }
         }
     }
@@ -457,7 +493,7 @@ fn too_many<F: Entries>() {
     let mut marks = apart::<F>(F::MOST + 1);
     marks[F::MOST] = marks[0];
     marks[F::MOST].as_mut()[F::WIDTH - 1] += 1.0;
-    for (entry, number, _) in told::<F>(&flat(&marks), &GOOD) {
-        assert_eq!(number, 5, "{entry}");
+    for Entry { name, call, .. } in all::<F>(&flat(&marks), &GOOD) {
+        assert_eq!(call(), 5, "{name}");
     }
 }
