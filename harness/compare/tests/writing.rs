@@ -135,15 +135,15 @@ impl Numbers for Mark {
         write_mark(self, out)
     }
 
-    /// The reader tests nothing; an opening with the square behind it does.
+    /// The reader tests nothing; an opening over the mark four times does.
     fn read(record: &[u8]) -> Result<Self, u32> {
         let mut numbers = junk(5);
         pick::read_marks(record, &mut numbers);
         assert_eq!(numbers[4], junk(5)[4]);
         numbers.truncate(4);
-        let marks = [numbers.as_slice(), &SQUARE].concat();
+        let marks = numbers.repeat(4);
         let record = Options::new(2.0).record();
-        match pick::open(&record, &marks, &[1; 7], &mut [0; 25]) {
+        match pick::open(&record, &marks, &[1; 5], &mut [0; 25]) {
             0 => Ok(numbers.try_into().expect("four numbers")),
             number => Err(number),
         }
