@@ -1,6 +1,8 @@
 // Marks of one position and two pixels (document 02, order 6): whether a list has two of them.
 ghost use Rattle.std.specs.Prelude.{◌≡◌, ◌<◌, ◌≤◌, ◌-◌, ◌/◌, true, length};
 ghost use Rattle.std.specs.List.{All};
+ghost use Rattle.std.specs.Float.Ieee.{eq};
+ghost use Rattle.std.specs.Cmp.Lexicographic.{pointwise};
 ghost use Rattle.numbers.specs.Constants.{farthest};
 ghost use Rattle.estimator.specs.Family.{mark_at};
 ghost use Rattle.estimator.specs.Marks.{all_within};
@@ -22,6 +24,19 @@ fn numbers_of<E: Estimator>(marks: &[f64], i: usize) -> &[f64]
     &marks[at..at + E::WIDTH]
 }
 
+// Whether two lists of one length have equal numbers at each place. All are looked at, without a jump.
+#[tactic(auto, using(crate::proofs::Stride::alike_more))]
+fn alike(a: &[f64], b: &[f64]) -> bool
+    requires { length a.now ≡ length b.now }
+    ensures { result ≡ pointwise eq a.now b.now }
+{
+    let mut all = true;
+    for k in 0..a.len() {
+        all &= a[k] == b[k];
+    }
+    all
+}
+
 // Whether the marks at two places have one position and two pixels.
 #[tactic(auto, unfolding(crate::specs::Double::clash, crate::specs::Double::position, crate::specs::Double::pixel))]
 fn clash_at<E: Estimator>(marks: &[f64], i: usize, j: usize) -> bool
@@ -30,7 +45,7 @@ fn clash_at<E: Estimator>(marks: &[f64], i: usize, j: usize) -> bool
 {
     let (position, pixel) = numbers_of::<E>(marks, i).split_at(E::WIDTH - 2);
     let (other_position, other_pixel) = numbers_of::<E>(marks, j).split_at(E::WIDTH - 2);
-    (position == other_position) & (pixel != other_pixel)
+    alike(position, other_position) & !alike(pixel, other_pixel)
 }
 
 // Whether two of some places that stand side by side have marks of one position and two pixels.
