@@ -63,7 +63,7 @@ fn neighbours_clash<E: Estimator>(marks: &[f64], places: &[u16]) -> bool
 
 // Whether two of the marks have one position and two pixels: in the order of their positions these stand
 // side by side.
-pub fn doubled<E: Estimator>(marks: &[f64]) -> bool
+pub(crate) fn doubled<E: Estimator>(marks: &[f64]) -> bool
     requires in_range { all_within farthest marks.now ≡ true }
     requires short { length marks.now ≤ 8000 }
     ensures { result ≡ doubled E.family (E.family.marks_of marks.now) }
