@@ -2,6 +2,7 @@
 //! rounds.
 
 mod cases;
+mod marks;
 mod root;
 mod roots;
 mod run;
@@ -28,12 +29,20 @@ fn median(mut times: Vec<f64>) -> f64 {
     times[times.len() / 2]
 }
 
-/// Everything; or, given the name of a row of the whole run, that run once.
+/// Everything; or, given `marks`, the tests of marks alone; or, given the name of a
+/// row of the whole run, that run once.
 fn main() {
-    if let Some(title) = std::env::args().nth(1) {
-        return run::once(&title);
+    match std::env::args().nth(1).as_deref() {
+        Some("marks") => marks::run(),
+        Some(title) => run::once(title),
+        None => all(),
     }
+}
+
+fn all() {
     root::run();
+    println!();
+    marks::run();
     println!();
     sheet::run();
     println!();

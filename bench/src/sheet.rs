@@ -6,7 +6,9 @@
 //! rows are `original_rows` below, not `dlt_homography`: that one goes on to a
 //! solver for which the harness has a stand-in, and what the stand-in copies
 //! and clears takes longer than the rows. It is timed too, and shown without a
-//! ratio. The Rust's collinear tests look no further than the third mark here.
+//! ratio. The Rust's collinear tests look no further than the third mark here. The
+//! proved side tests the range of every number, and that no two marks have one
+//! position and two pixels.
 
 use crate::{ROUNDS, median, nanoseconds};
 use oracle::cases::Random;

@@ -1,0 +1,125 @@
+//! The tests of a run's marks, by an opening that is accepted: the shape, the range
+//! of every number, that no two marks have one position and two pixels, and that
+//! they are enough. Beside plain Rust doing the same, which sorts places by std's
+//! unstable sort and looks at neighbours.
+//!
+//! The opening writes a state besides, of some thirty words. The Rust's list of
+//! places is allocated before the time runs.
+
+use crate::cases::Timed;
+use crate::{ROUNDS, median, nanoseconds};
+use oracle::book::Options;
+use oracle::cases::Random;
+use oracle::family_cases::clash;
+use oracle::{Family, Form, Numbers, Sheet};
+use std::cmp::Ordering;
+use std::hint::black_box;
+
+/// The same tests: 0, or the refusal.
+#[inline(never)]
+fn plain<F: Timed>(marks: &[f64], places: &mut Vec<u16>) -> u32 {
+    let (list, rest) = F::Mark::chunks(marks);
+    if !rest.is_empty() || marks.len() > 8000 {
+        return 5;
+    }
+    if !marks.iter().all(|x| x.abs() <= 1e9) {
+        return 6;
+    }
+    let sides = |place: u16| list[place as usize].as_ref().split_at(F::WIDTH - 2);
+    let by_position = |p: &u16, q: &u16| sides(*p).0.partial_cmp(sides(*q).0);
+    places.clear();
+    places.extend(0..list.len() as u16);
+    places.sort_unstable_by(|p, q| by_position(p, q).unwrap_or(Ordering::Equal));
+    let clashes = |two: &[u16]| {
+        let [(at, pixel), (other, other_pixel)] = [sides(two[0]), sides(two[1])];
+        at == other && pixel != other_pixel
+    };
+    if places.windows(2).any(clashes) {
+        return 18;
+    }
+    7 * u32::from(list.len() < F::FEWEST)
+}
+
+/// In which order positions stand.
+const ORDERS: [&str; 5] = ["no order", "ascending", "descending", "all equal", "a grid"];
+
+/// n marks; a grid of 45 by 45 in no order.
+fn marks<F: Timed>(n: usize, order: &str) -> Vec<f64> {
+    let random = &mut Random::new(74);
+    let one = |random: &mut Random| F::Mark::from_fn(|_| 1000.0 * random.unit());
+    let mut list: Vec<F::Mark> = (0..n).map(|_| one(random)).collect();
+    let up = |a: &F::Mark, b: &F::Mark| a.as_ref().partial_cmp(b.as_ref()).expect("no NaN");
+    match order {
+        "ascending" => list.sort_by(up),
+        "descending" => list.sort_by(|a, b| up(b, a)),
+        "all equal" => list = vec![list[0]; n],
+        "a grid" => {
+            for (i, mark) in list.iter_mut().enumerate() {
+                let place = i * 1103 % (45 * 45);
+                let at = &mut mark.as_mut()[..F::WIDTH - 2];
+                at.fill(0.0);
+                (at[0], at[1]) = ((place % 45) as f64, (place / 45) as f64);
+            }
+        }
+        _ => {}
+    }
+    let numbers = list.iter().flat_map(|mark| mark.as_ref());
+    numbers.copied().collect()
+}
+
+/// The opening over the marks: 0, or the refusal.
+fn opened<F: Timed>(family: &F, marks: &[f64], stops: &[u32], state: &mut [u64]) -> u32 {
+    family.open_options(&Options::new(2.0), marks, stops, state)
+}
+
+/// Microseconds of the two in turn, with the same answer.
+fn row<F: Timed>(n: usize, order: &str) {
+    let (family, _) = F::through();
+    let (mut list, stops) = (marks::<F>(n, order), vec![9; n + 1]);
+    let (mut state, mut places) = (vec![0; F::WORDS], Vec::with_capacity(n));
+    let both = |list: &[f64], state: &mut [u64], places: &mut Vec<u16>| {
+        let told = opened(&family, list, &stops, state);
+        assert_eq!(told, plain::<F>(list, places), "{n} {order}");
+        told
+    };
+    assert_eq!(both(&list, &mut state, &mut places), 0);
+    let good = list.clone();
+    clash::<F>(&mut Random::new(75), &mut list);
+    assert_eq!(both(&list, &mut state, &mut places), 18);
+
+    let passes = (20_000 / n).max(20);
+    let mut times = [const { Vec::new() }; 2];
+    for _ in 0..ROUNDS {
+        times[0].push(nanoseconds(passes, || {
+            black_box(opened(&family, black_box(&good), &stops, &mut state));
+        }));
+        times[1].push(nanoseconds(passes, || {
+            black_box(plain::<F>(black_box(&good), &mut places));
+        }));
+    }
+    let [p, o] = times.map(median);
+    println!(
+        "{n:<6} {order:<11} {:>10.2} {:>9.2} {:>15.1} {:>13.1} {:>12.2}",
+        p / 1e3,
+        o / 1e3,
+        p / n as f64,
+        o / n as f64,
+        p / o
+    );
+}
+
+fn rows<F: Timed>(title: &str, counts: &[usize]) {
+    println!("the tests of the marks of {title}, by an opening");
+    println!("marks  positions    proved us   Rust us  proved ns/mark  Rust ns/mark  proved/Rust");
+    for &n in counts {
+        for order in ORDERS {
+            row::<F>(n, order);
+        }
+    }
+}
+
+pub fn run() {
+    rows::<Sheet>("a sheet", &[4, 50, 500, Sheet::MOST]);
+    println!();
+    rows::<Form>("a form", &[Form::MOST]);
+}
