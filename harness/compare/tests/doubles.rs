@@ -5,7 +5,7 @@
 
 use compare::families::Proved;
 use compare::lists::compare_lent;
-use compare::{cases, for_each_family, is_long, junk_bytes, junk_words};
+use compare::{for_each_family, is_long, junk_bytes, junk_words};
 use oracle::book::{Best, Book, Call, Options, State, trial_record};
 use oracle::cases::Random;
 use oracle::double_cases::{
@@ -378,7 +378,7 @@ fn random_list<F: Entries>(random: &mut Random, n: usize) -> Doubled {
 fn random_lists<F: Entries>() {
     let random = &mut Random::new(81);
     let mut times = [[0; 2]; 61];
-    let count = cases(12_000);
+    let count = runs(12_000, 50);
     for i in 0..count {
         let (marks, clash) = random_list::<F>(random, i % 61);
         check::<F>(&marks, clash);

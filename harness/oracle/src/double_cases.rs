@@ -332,11 +332,15 @@ pub fn the_most<F: Family>() -> Vec<Doubled> {
 }
 
 /// n marks on few positions or many, in any order or by their positions, up or
-/// down. No two clash; then some may, made so at random.
+/// down: of whole numbers of something, zeros of both signs among them, or of
+/// doubles next to each other. No two clash; then some may, made so at random.
 pub fn random<F: Family>(random: &mut Random, n: usize) -> Vec<f64> {
     let reach = random.pick(&[0, 1, 1, 2, 3, 10]);
     let one = random.pick(&[1.0, 1.0, 0.1, 1e-300, 5e-324, 1e8]);
+    let beside = random.sign() * random.sized(20, 1051);
+    let by_steps = random.below(4) == 0;
     let number = |random: &mut Random| match random.from_to(-reach, reach) {
+        k if by_steps => step(beside, k),
         0 => random.sign() * 0.0,
         k => one * k as f64,
     };
