@@ -199,7 +199,7 @@ fn hand_made_ratios<F: Proved>() {
     }
 }
 
-/// 11, 5, 6, 7, 9; and a state that has not all its words.
+/// 11, 5, 6, 18, 7, 9; and a state that has not all its words.
 fn order<F: Proved>() {
     let case = F::example();
     let mut words = run(&case);
@@ -209,12 +209,16 @@ fn order<F: Proved>() {
     assert_eq!(compare::<F>(&words, &nan[1..], 0), 5);
     assert_eq!(compare::<F>(&words, &nan[..fewer], 0), 5);
     assert_eq!(compare::<F>(&words, &nan, 0), 6);
+    let mut doubled = marks.clone();
+    doubled.copy_within(..F::WIDTH - 2, F::WIDTH);
+    assert_eq!(compare::<F>(&words, &doubled, 0), 18);
     assert_eq!(compare::<F>(&words, marks, n - 1), 9);
     assert_eq!(compare::<F>(&words, marks, n), 0);
     assert_eq!(compare::<F>(&words, marks, n + 4), 0);
     words[5] = F::FEWEST as u64 - 1;
     let few = F::WIDTH * (F::FEWEST - 1);
     assert_eq!(compare::<F>(&words, &marks[..few], 0), 7);
+    assert_eq!(compare::<F>(&words, &doubled[..few], 0), 18);
     words[5] = u64::MAX;
     assert_eq!(compare::<F>(&words, marks, n), 5);
     words[11] = 0;

@@ -25,6 +25,13 @@ fn by(ratio: f64, options: Options) -> Options {
     Options { ratio, ..options }
 }
 
+/// The square with the second mark at the first one's position.
+fn doubled() -> [f64; 20] {
+    let mut marks = SQUARE;
+    marks.copy_within(..2, 4);
+    marks
+}
+
 fn open(options: Options) -> State {
     State::open(Sheet, options, &SQUARE, &STOPS).expect("an accepted opening")
 }
@@ -257,8 +264,8 @@ fn openings_refuse_in_their_order() {
         max_iters,
         ..good
     };
-    let marks7 = &SQUARE[..7];
-    let cases: [(Options, &[f64], &[u32], u32); 14] = [
+    let (marks7, doubled) = (&SQUARE[..7], &doubled());
+    let cases: [(Options, &[f64], &[u32], u32); 18] = [
         (by(nan, bad_all), marks7, &[], 2),
         (by(nan, with(2.0, 1.0, 0)), marks7, &[], 3),
         (by(nan, with(2.0, 0.5, 100_001)), marks7, &[], 4),
@@ -269,6 +276,10 @@ fn openings_refuse_in_their_order() {
         (by(nan, good), &SQUARE, &STOPS, 16),
         (good, marks7, &[], 5),
         (good, &[nan; 8], &[], 6),
+        (by(nan, good), doubled, &[], 16),
+        (good, &doubled[..7], &[], 5),
+        (good, &doubled[..12], &[], 18),
+        (good, doubled, &STOPS[..5], 18),
         (good, &SQUARE[..12], &[], 7),
         (good, &SQUARE, &STOPS[..5], 8),
         (with(2.0, 0.5, 100_000), &SQUARE, &STOPS, 0),
@@ -358,11 +369,14 @@ fn trials_refuse_in_their_order() {
         marks,
         stops,
     };
+    let doubled = doubled();
     let cases = [
         (call(&SQUARE[..7], &[], &bad), 5),
         // Four marks, where the run has five.
         (call(&[f64::NAN; 16], &[], &bad), 5),
         (call(&[f64::NAN; 20], &[], &bad), 6),
+        (call(&doubled[..16], &[], &bad), 5),
+        (call(&doubled, &[], &bad), 18),
         (call(&SQUARE, &STOPS[..5], &bad), 8),
         (call(&SQUARE, &STOPS, &bad), 1),
         (call(&SQUARE, &STOPS, &bad[..151]), 1),
@@ -376,11 +390,11 @@ fn trials_refuse_in_their_order() {
         after.book.bound = 0;
         assert_eq!(after.trial(&call).number(), 10);
     }
-    // A hand-made n of three: 7, where the list has three too.
+    // A hand-made n of three: 7, where the list has three too, and 18 before it.
     let mut three = state;
     three.n = 3;
-    let call = call(&SQUARE[..12], &[], &bad);
-    assert_eq!(three.trial(&call).number(), 7);
+    assert_eq!(three.trial(&call(&SQUARE[..12], &[], &bad)).number(), 7);
+    assert_eq!(three.trial(&call(&doubled[..12], &[], &bad)).number(), 18);
 }
 
 /// 01's kinds of a malformed record, one by one.
@@ -519,8 +533,10 @@ fn indices_refuse_in_their_order() {
     assert_eq!(state.winner_indices(&[nan; 7], 0), Err(5));
     assert_eq!(state.winner_indices(&SQUARE[..16], 0), Err(5));
     assert_eq!(state.winner_indices(&[nan; 20], 0), Err(6));
+    assert_eq!(state.winner_indices(&doubled(), 0), Err(18));
     assert_eq!(state.winner_indices(&SQUARE, 4), Err(9));
     state.n = 3;
+    assert_eq!(state.winner_indices(&doubled()[..12], 0), Err(18));
     assert_eq!(state.winner_indices(&SQUARE[..12], 0), Err(7));
 }
 

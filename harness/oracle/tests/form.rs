@@ -54,11 +54,13 @@ fn normalising_into_a_list() {
         assert_eq!(lent, vec![BEFORE; room]);
         refusal
     };
-    // 5, 6, 12, 9; few marks are no refusal here.
+    // 5, 6, 18, 12, 9; few marks are no refusal here.
     for (marks, number) in refused_traps() {
         assert_eq!(refused(&marks, 0), number);
         assert_eq!(refused(&marks, 30), number);
     }
+    assert_eq!(refused(&doubled(), 18), 18);
+    assert_eq!(refused(&doubled()[..10], 0), 18);
     assert_eq!(refused(&[], 0), 12);
     assert_eq!(refused(&[1.0; 5], 3), 12);
     assert_eq!(refused(&[1.0; 30], 0), 12);
@@ -104,11 +106,13 @@ fn rows_into_a_list() {
         assert_eq!(lent, vec![BEFORE; room]);
         refusal
     };
-    // 5, 6, 7, 12, 9.
+    // 5, 6, 18, 7, 12, 9.
     for (marks, number) in refused_traps() {
         assert_eq!(refused(&marks, 0), number);
         assert_eq!(refused(&marks, 300), number);
     }
+    assert_eq!(refused(&doubled(), 144), 18);
+    assert_eq!(refused(&doubled()[..25], 0), 18);
     assert_eq!(refused(&[], 0), 7);
     assert_eq!(refused(&cube(5), 0), 7);
     assert_eq!(refused(&[1.0; 25], 200), 7);
@@ -290,6 +294,13 @@ const MARKS: [f64; 30] = [
 ];
 const STOPS: [u32; 7] = [9, 9, 9, 9, 9, 3, 9];
 
+/// The marks with the second at the first one's position.
+fn doubled() -> [f64; 30] {
+    let mut marks = MARKS;
+    marks.copy_within(..3, 5);
+    marks
+}
+
 /// The same moved down by three.
 fn down() -> Pose {
     let mut h = AHEAD;
@@ -403,7 +414,7 @@ fn trials_by_other_cameras() {
     }
 }
 
-/// 1 of the options, 1 of the camera, 2, 3, 4, 16, 5, 6, 7, 8, 17.
+/// 1 of the options, 1 of the camera, 2, 3, 4, 16, 5, 6, 18, 7, 8, 17.
 #[test]
 fn openings_refuse_in_their_order() {
     let good = options(2.0, 4);
@@ -417,13 +428,21 @@ fn openings_refuse_in_their_order() {
     };
     let bad = by([nan, 0.0, 0.0, 0.0]);
     type Opening<'a> = (Options, &'a [f64], &'a [u32], Form, u32);
-    let cases: [Opening; 11] = [
+    let doubled = doubled();
+    // At one x and y, and not at one z.
+    let mut raised = doubled;
+    raised[7] = 2.0;
+    let cases: [Opening; 15] = [
         (by_options(nan, nan, 0, nan), &MARKS[..7], &[], bad, 2),
         (by_options(1.0, nan, 0, nan), &MARKS[..7], &[], bad, 3),
         (by_options(1.0, 0.5, 0, nan), &MARKS[..7], &[], bad, 4),
         (by_options(1.0, 0.5, 1, nan), &MARKS[..7], &[], bad, 16),
         (good, &[nan; 7], &[], bad, 5),
         (good, &[nan; 25], &[], bad, 6),
+        (good, &doubled[..25], &[], bad, 18),
+        (good, &doubled, &STOPS[..6], bad, 18),
+        (good, &doubled, &STOPS, bad, 18),
+        (good, &raised, &STOPS, PLAIN, 0),
         (good, &MARKS[..25], &[], bad, 7),
         (good, &MARKS, &STOPS[..6], bad, 8),
         (good, &MARKS, &STOPS, bad, 17),
@@ -462,7 +481,7 @@ fn how_many_marks() {
     }
 }
 
-/// 10, 5, 6, 7, 8, 1, and for the indices 11, 5, 6, 7, 9.
+/// 10, 5, 6, 18, 7, 8, 1, and for the indices 11, 5, 6, 18, 7, 9.
 #[test]
 fn calls_refuse_in_their_order() {
     let state = open(PLAIN, options(2.0, 4));
@@ -484,8 +503,10 @@ fn calls_refuse_in_their_order() {
     };
     assert_eq!(refused(state, &[f64::NAN; 25], &[], &bad), 5);
     assert_eq!(refused(state, &wide, &[], &bad), 6);
+    assert_eq!(refused(state, &doubled(), &[], &bad), 18);
     let mut five = state;
     five.n = 5;
+    assert_eq!(refused(five, &doubled()[..25], &[], &bad), 18);
     assert_eq!(refused(five, &MARKS[..25], &[], &bad), 7);
     assert_eq!(refused(state, &MARKS, &STOPS[..6], &bad), 8);
     assert_eq!(refused(state, &MARKS, &STOPS, &bad), 1);
@@ -500,6 +521,7 @@ fn calls_refuse_in_their_order() {
     try_one(&mut won, &fit(AHEAD));
     assert_eq!(won.winner_indices(&[f64::NAN; 25], 0), Err(5));
     assert_eq!(won.winner_indices(&wide, 0), Err(6));
+    assert_eq!(won.winner_indices(&doubled(), 0), Err(18));
     assert_eq!(won.winner_indices(&MARKS, 5), Err(9));
     assert_eq!(won.winner_indices(&MARKS, 6), Ok(vec![0, 1, 2, 3, 4]));
     won.n = 5;

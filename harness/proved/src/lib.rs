@@ -166,7 +166,7 @@ pub fn normalize_matrix(marks: &[f64], side: u32, points: &mut [f64], place: u32
     }
 }
 
-/// 0 no, 1 yes, or the refusal 5 or 6.
+/// 0 no, 1 yes, or the refusal 5, 6 or 18.
 pub fn points_are_collinear(marks: &[f64], side: u32) -> u32 {
     // SAFETY: the pointer and length are those of a slice, which is only read.
     unsafe { c::probe_points_are_collinear(marks.as_ptr(), marks.len(), side) }
