@@ -40,9 +40,8 @@ module _ {E M K : Type 0} (f : Family E M K) (l : List Float) where
     shape_passed = shape_first.0
 
     pub few_passed : (few f l).fails ≡ false
-    unfolding enough_tests point double few
+    unfolding enough_tests point few
     few_passed =
         let a = first_passed (point l) _ tt shape_first.1 in
-        let b = first_passed (double f l) _ tt a.1 in
-        let d = first_passed (few f l) _ tt b.1 in
-        d.0
+        let b = first_passed (few f l) _ tt a.1 in
+        b.0

@@ -48,7 +48,7 @@ module _ {E M K : Type 0} (f : Family E M K) where
 
   -- what is asked of the marks of a run whose shape was tested
   unfoldable pub enough_tests : List Float → List Test
-  enough_tests l = point l ∷ double l ∷ few l ∷ []
+  enough_tests l = point l ∷ few l ∷ double l ∷ []
 
   -- and all that is asked of the marks of a run
   unfoldable pub run_tests : List Float → List Test

@@ -155,7 +155,7 @@ pub fn check_marks<E: Estimator>(marks: &[f64]) -> Result<(), Refusal>
     Ok(())
 }
 
-// The tests of the marks of a run after their shape, in order: refused with 6, 18 or 7.
+// The tests of the marks of a run after their shape, in order: refused with 6, 7 or 18.
 #[tactic(auto, unfolding(rule::specs::Order::first_failed, crate::specs::Marks::enough_tests, crate::specs::Marks::point, crate::specs::Marks::double, crate::specs::Marks::few))]
 fn check_enough<E: Estimator>(marks: &[f64]) -> Result<(), Refusal>
     requires { length marks.now ≤ 8000 }
@@ -164,16 +164,16 @@ fn check_enough<E: Estimator>(marks: &[f64]) -> Result<(), Refusal>
     if !all_in_range(marks) {
         return Err(Refusal::Point);
     }
-    if doubled::<E>(marks) {
-        return Err(Refusal::Double);
-    }
     if mark_count::<E>(marks) < E::MIN_SAMPLES {
         return Err(Refusal::Few);
+    }
+    if doubled::<E>(marks) {
+        return Err(Refusal::Double);
     }
     Ok(())
 }
 
-// The tests of the marks of a run, in order: refused with 5, 6, 18 or 7.
+// The tests of the marks of a run, in order: refused with 5, 6, 7 or 18.
 #[tactic(auto, unfolding(rule::specs::Order::first_failed, crate::specs::Marks::run_tests, crate::specs::Marks::shape_tests, crate::specs::Marks::shape))]
 pub fn check_run<E: Estimator>(marks: &[f64]) -> Result<(), Refusal>
     ensures refusal_value { refusal_in result ≡ first_failed (run_tests E.family marks.now) }
