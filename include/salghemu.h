@@ -44,7 +44,8 @@ enum salghemu_refusal {
     SALGHEMU_SHAPE = 5,
     /* A number of a mark is not finite, or of magnitude above 1e9. */
     SALGHEMU_POINT = 6,
-    /* Under four marks. */
+    /* Under four marks. Where two of them are doubled too, this comes
+       first. */
     SALGHEMU_FEW = 7,
     /* The stop list has not one entry more than there are marks. */
     SALGHEMU_STOPS = 8,
@@ -96,7 +97,7 @@ enum salghemu_refusal {
  *          that agrees, ascending, and the winner's count says how many.
  *
  * It returns 0, or a refusal; of several that hold, the first in this order:
- * 1 for the options, 2 to 4, 16, 5, 6, 18, 7, 8, 1 for the length of the trial
+ * 1 for the options, 2 to 4, 16, 5, 6, 7, 18, 8, 1 for the length of the trial
  * list, 9, 1 for a trial that is reached, 11. Refused, it writes nothing. Bytes past
  * those said above stay as they were, and trials behind the end are not looked
  * at.

@@ -58,7 +58,7 @@ fn write_rows(marks: &[f64], change: Change, rows: &mut [f64])
     }
 }
 
-// The rows of all marks into the lent list, the rest of which stays. Refused with 5, 6, 18, 7, 12 or 9,
+// The rows of all marks into the lent list, the rest of which stays. Refused with 5, 6, 7, 18, 12 or 9,
 // in this order; the lent list then stays as it is.
 #[tactic(auto, unfolding(rule::specs::Order::first_failed, rule::specs::Order::if_passed, rule::specs::Order::room, linalg_3d::specs::Normalize::change_of, linalg_3d::specs::Normalize::spread, crate::specs::Rows::rows_tests), using(estimator::proofs::Run::run_first, estimator::proofs::Order::above_0, form::specs::Owed::counts))]
 pub fn dlt_rows(marks: &[f64], rows: &mut [f64]) -> Result<(), Refusal>

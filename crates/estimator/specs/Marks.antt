@@ -1,5 +1,5 @@
--- Document 01, 'Marks' and 'Refusals', and document 02, orders 5 and 6: the tests that every entry makes of a list of marks, by the family's numbers a mark and
--- fewest marks.
+-- Document 01, 'Marks' and 'Refusals', and document 02, orders 5, 6 and 7: the tests that every entry makes of a list of marks, by the family's numbers a mark
+-- and fewest marks.
 use Rattle.std.specs.Prelude.{Bool, not, ◌||◌, List, [], ◌∷◌, ℕ, suc, ◌%◌, ltb, eqb, length, Float}
 use Rattle.rule.specs.Refusal.{SHAPE, POINT, FEW, STOPS, DOUBLE}
 use Rattle.rule.specs.Order.{Test}

@@ -1,4 +1,5 @@
--- Document 02, order 5: the camera's record, 32 bytes, and the opening of a form's run from two records. 1 (options, then camera), 2, 3, 4, 16, 5, 6, 18, 7, 8, 17.
+-- Document 02, order 5: the camera's record, 32 bytes, and the opening of a form's run from two records. 1 (options, then camera), 2, 3, 4, 16, 5, 6, 7,
+-- 18, 8, 17.
 use Rattle.std.specs.Prelude.{not, List, [], ◌∷◌, ℕ, eqb, length, Float}
 use Rattle.rule.specs.Refusal.{RECORD}
 use Rattle.rule.specs.Answer.{Answer}

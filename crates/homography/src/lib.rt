@@ -56,7 +56,7 @@ fn write_rows(marks: &[f64], sheet: Change, pixel: Change, rows: &mut [f64])
     }
 }
 
-// The rows of all marks into the lent list, the rest of which stays. Refused with 5, 6, 18, 7, 13, 14,
+// The rows of all marks into the lent list, the rest of which stays. Refused with 5, 6, 7, 18, 13, 14,
 // 12 or 9, in this order; the lent list then stays as it is.
 #[tactic(auto, unfolding(rule::specs::Order::first_failed, rule::specs::Order::if_passed, rule::specs::Order::room, linalg::specs::Normalize::change_of, crate::specs::Rows::rows_tests, crate::specs::Rows::sheet_line, crate::specs::Rows::pixel_line, crate::specs::Rows::spreads), using(estimator::proofs::Run::run_first, estimator::proofs::Order::above_0, sheet::specs::Owed::counts))]
 pub fn dlt_rows(marks: &[f64], rows: &mut [f64]) -> Result<(), Refusal>

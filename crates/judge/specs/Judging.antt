@@ -35,7 +35,7 @@ call_of c = record { bytes = c.bytes.now; marks = c.marks.now; stops = c.stops.n
 module _ {E M K : Type 0} (f : Family E M K) where
   -- ---- the tests
 
-  -- 5, 6, 18, 7, 8, 1
+  -- 5, 6, 7, 18, 8, 1
   unfoldable pub call_tests : ℕ → Call → List Test
   call_tests n c = of_run f n c.marks ∷ (run_tests f c.marks ++ (entries f c.marks c.stops ∷ trial_record f.size c.bytes ∷ []))
 

@@ -1,4 +1,4 @@
--- Document 01, the winner indices: order 11, 5, 6, 18 (document 02, order 6), 7, 9 (n places). Places past the last written stay.
+-- Document 01, the winner indices: order 11, 5, 6, 7, 18 (document 02, orders 6 and 7), 9 (n places). Places past the last written stay.
 use Rattle.std.specs.Prelude.{List, [], ◌∷◌, ◌++◌, ℕ, length, drop, Float}
 use Rattle.rule.specs.Refusal.{NONE}
 use Rattle.rule.specs.Answer.{Answer, refused}
@@ -11,7 +11,7 @@ use Rattle.score.specs.Places.{indices_in}
 use Rattle.pick.specs.Run.{Run}
 
 module _ {E M K : Type 0} (f : Family E M K) where
-  -- 5, 6, 18, 7, 9
+  -- 5, 6, 7, 18, 9
   unfoldable pub marks_order : ℕ → List Float → (places : ℕ) → List Test
   marks_order n marks places = of_run f n marks ∷ (run_tests f marks ++ (room (length (f.marks_of marks)) places ∷ []))
 

@@ -1,5 +1,5 @@
--- Document 01, the opening: from the options type, and from a record, which alone can be 1. Tests 1 to 4, 16 (document 02, order 3), 5, 6, 18 (order 6), 7, 8,
--- and what the family asks (order 5: 17 of a camera).
+-- Document 01, the opening: from the options type, and from a record, which alone can be 1. Tests 1 to 4, 16 (document 02, order 3), 5, 6, 7, 18 (orders 6 and 7),
+-- 8, and what the family asks (order 5: 17 of a camera).
 use Rattle.std.specs.Prelude.{List, ◌∷◌, ◌++◌, ℕ, length, Float}
 use Rattle.rule.specs.Answer.{Answer}
 use Rattle.rule.specs.Order.{Test, first_failed, decided}

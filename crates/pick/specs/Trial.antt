@@ -1,5 +1,5 @@
--- Document 01, a trial: order 10, 5, 6, 18 (document 02, order 6), 7, 8, 1, then what the book makes of it; and order 2, the number beyond. For all states,
--- whoever made them.
+-- Document 01, a trial: order 10, 5, 6, 7, 18 (document 02, orders 6 and 7), 8, 1, then what the book makes of it; and order 2, the number beyond. For all
+-- states, whoever made them.
 use Rattle.std.specs.Prelude.{cond, List, ℕ, suc, Float, Result, Ok, Err}
 use Rattle.rule.specs.declared.Refusal.{Refusal}
 use Rattle.rule.specs.Refusal.{number_of}

@@ -27,7 +27,7 @@ fn check_order<E: Estimator>(n: usize, marks: &[f64], places: usize) -> Result<(
 }
 
 // Writes the places of the marks within the threshold under the winner to the front of `indices`,
-// ascending, and answers how many; refused with 11, 5, 6, 18, 7 or 9, in this order, and then nothing is
+// ascending, and answers how many; refused with 11, 5, 6, 7, 18 or 9, in this order, and then nothing is
 // written. (How many, beside a list that is lent: document 01's form of an index list.)
 #[tactic(auto, using(crate::proofs::Written::count_written, crate::proofs::Written::all_written), unfolding(rule::specs::Order::decided, rule::specs::Order::if_passed, crate::specs::Indices::indices_answer, crate::specs::Indices::indices_after, crate::specs::Indices::winner_answer, crate::specs::Indices::winner_after, crate::specs::Indices::under_answer, crate::specs::Indices::under_after))]
 pub fn winner_indices<E: Estimator>(

@@ -1,6 +1,6 @@
-// The opening of a run (document 01, 'Options' and 'Refusals', and document 02, orders 3, 5 and 6): tests 1
-// to 4, 16, 5, 6, 18, 7, 8, and what the family asks. (Marks and stop entries are two lists, as document 01
-// hands them to an opening.)
+// The opening of a run (document 01, 'Options' and 'Refusals', and document 02, orders 3 and 5 to 7): tests
+// 1 to 4, 16, 5, 6, 7, 18, 8, and what the family asks. (Marks and stop entries are two lists, as document
+// 01 hands them to an opening.)
 ghost use Rattle.std.specs.Prelude.{◌≡◌};
 ghost use Rattle.rule.specs.Answer.{told, refusal_in};
 ghost use Rattle.rule.specs.Order.{first_failed};
@@ -51,7 +51,7 @@ fn check_order<E: Estimator>(
     e.validate()
 }
 
-// Opens a run; refused with 2, 3, 4, 16, 5, 6, 18, 7 or 8, in this order, and then by what the family asks.
+// Opens a run; refused with 2, 3, 4, 16, 5, 6, 7, 18 or 8, in this order, and then by what the family asks.
 #[tactic(auto, using(crate::proofs::Order::refuses), unfolding(rule::specs::Order::decided, crate::specs::Opening::opening_answer))]
 pub fn open<E: Estimator>(
     e: E,

@@ -120,7 +120,7 @@ pub fn step<E: Estimator>(s: State<E, E::Model>, call: Call) -> Tried<E, E::Mode
     stepped(s, call).unwrap_or_else(|e| refused(s, e))
 }
 
-// One trial; refused with 10, 5, 6, 18, 7, 8 or 1, in this order.
+// One trial; refused with 10, 5, 6, 7, 18, 8 or 1, in this order.
 pub fn trial<E: Estimator>(s: State<E, E::Model>, call: Call) -> Tried<E, E::Model>
     ensures { view_tried result ≡ trial_answer E.family (view_state s) (call_of call.entry) }
 {

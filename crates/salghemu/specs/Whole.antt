@@ -47,12 +47,12 @@ stop_bytes n bytes = record { fails = not (eqb bytes (4 * suc n)); number = STOP
 unfoldable pub trial_bytes : (bytes : ℕ) → Test
 trial_bytes bytes = record { fails = not (eqb (bytes % 152) 0); number = RECORD }
 
--- those after the marks' length: 6, 18 (document 02, order 6), 7, 8, 1, 9
+-- those after the marks' length: 6, 7, 18 (document 02, orders 6 and 7), 8, 1, 9
 unfoldable pub later_tests : (numbers : List Float) → (n stops trials winner indices : ℕ) → List Test
 later_tests numbers n stops trials winner indices =
     enough_tests sheet numbers ++ (stop_bytes n stops ∷ trial_bytes trials ∷ room 88 winner ∷ room (4 * n) indices ∷ [])
 
--- 2, 3, 4, 16, 5, 6, 18, 7, 8, 1, 9
+-- 2, 3, 4, 16, 5, 6, 7, 18, 8, 1, 9
 unfoldable pub order_of : RansacOptions → (marks stops trials : List ℕ) → (winner indices : ℕ) → List Test
 order_of o marks stops trials winner indices =
     options_tests o ++ (mark_bytes marks ∷ later_tests (numbers_in 4 marks) (length (marks_of (numbers_in 4 marks))) (length stops) (length trials) winner indices)
