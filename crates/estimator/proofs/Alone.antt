@@ -2,28 +2,20 @@
 use mathlib.Core.Path.{◌≡◌, refl}
 use mathlib.Core.Bool.{Bool, true, false, not, ◌&&◌, ◌||◌, cond}
 use mathlib.Core.List.{List, [], ◌∷◌}
-use Prim.Native.Nat.{ℕ, zero, suc, ◌-◌, ◌*◌}
-use borrow.Author.Tests.{eq-eqb}
+use Prim.Native.Nat.{ℕ, zero, suc, ◌-◌}
 use lib.ListN.{drop}
 use lib.Pointwise.{pointwise}
-use lib.Ieee.{Float, nan, inf, fin, up, down, eq, le}
+use lib.Ieee.{Float, eq, le}
 use Rattle.std.proofs.lemmas.Bool.{and_parts}
 use Rattle.rule.specs.Refusal.{POINT, DOUBLE}
 use Rattle.rule.specs.Order.{first_failed}
 use Rattle.rule.specs.Lists.{every}
-use Rattle.rule.proofs.Tests.{clash as contradict}
 use Rattle.numbers.specs.Constants.{farthest}
 use Rattle.numbers.specs.Finite.{abs_of, is_finite, within}
 use Rattle.estimator.specs.Family.{Family}
 use Rattle.estimator.specs.Double.{position, pixel, clash, doubled}
 use Rattle.estimator.specs.Marks.{all_within, shape, point, double, marks_tests}
-
-equals_itself : (x : Float) → is_finite x ≡ true → eq x x ≡ true
-unfolding is_finite eq
-equals_itself nan h = contradict h refl
-equals_itself (inf s) h = contradict h refl
-equals_itself (fin true m e) h = rw (eq-eqb (m * up e * down e) (m * up e * down e) refl)
-equals_itself (fin false m e) h = rw (eq-eqb (m * up e * down e) (m * up e * down e) refl)
+use Rattle.estimator.proofs.Keys.{equals_itself}
 
 module _ (limit : Float) where
   pub equal_themselves : (l : List Float) → all_within limit l ≡ true → pointwise eq l l ≡ true

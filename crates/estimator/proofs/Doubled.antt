@@ -1,7 +1,7 @@
 -- The marks of a list in the order of their positions: equal positions have one rank, and so what is seen of neighbours is what is so of any two. Assumes nothing.
 use mathlib.Core.Path.{◌≡◌, refl, sym, ap, subst, ◌∙◌}
 use mathlib.Core.Logic.{inl, inr}
-use mathlib.Core.Bool.{Bool, true, false, ◌||◌}
+use mathlib.Core.Bool.{Bool, true, ◌||◌}
 use mathlib.Core.List.{List, [], ◌∷◌, map}
 use Prim.Native.Nat.{ℕ, zero, suc, ◌+◌, ◌-◌, ◌*◌, ◌/◌, ◌^◌, ◌≤◌, ◌<◌}
 use native.Mathlib.Nat.{eq-or-lt_of_le}
@@ -13,6 +13,7 @@ use lib.Seq.{length-take-le}
 use lib.Ieee.{Float, nan, binary64, fits, eq}
 use Rattle.std.specs.List.{All, list_any, range_with_len}
 use Rattle.std.specs.List.Sorted.{IsPermutation, IsNonDecreasingBy}
+use Rattle.std.specs.Cmp.{both_ways}
 use Rattle.std.specs.Cmp.Lexicographic.{pointwise}
 use Rattle.std.proofs.lemmas.List.{get_or-take, get_or-drop}
 use Rattle.std.proofs.lemmas.List.Sorted.{list_any-IsPermutation, All-permutation}
@@ -59,11 +60,6 @@ unfolding all_within
 front_within zero l h = refl
 front_within (suc k) [] h = refl
 front_within (suc k) (x ∷ l) h = let r = and_parts (within farthest x) (every (within farthest) l) h in rw (r.0) (front_within k l r.1)
-
-same_test : (a b : Bool) → (a ≡ true → b ≡ true) → (b ≡ true → a ≡ true) → a ≡ b
-same_test true b f g = sym (f refl)
-same_test false true f g = g refl
-same_test false false f g = refl
 
 -- ---- ranks are equal where all keys are
 
@@ -131,7 +127,7 @@ module _ {E M K : Type 0} (f : Family E M K) (w : ℕ) (wide : 4 ≤ w) (width :
         rw (keyed k p e (rw (counted) h), keyed k q e (rw (counted) g)) (key_decides (get_or l (w * p + k) nan) (get_or l (w * q + k) nan) (held (w * p + k)) (held (w * q + k)) (number_within p h k e) (number_within q g k e))
 
     pub decides : (p q : ℕ) → p < length l / w → q < length l / w → pointwise eq (position f (mark_at f l p)) (position f (mark_at f l q)) ≡ eqb (rank p) (rank q)
-    decides p q h g = same_test (pointwise eq (position f (mark_at f l p)) (position f (mark_at f l q))) (eqb (rank p) (rank q)) there back
+    decides p q h g = both_ways (pointwise eq (position f (mark_at f l p)) (position f (mark_at f l q))) (eqb (rank p) (rank q)) there back
       where
         there : pointwise eq (position f (mark_at f l p)) (position f (mark_at f l q)) ≡ true → eqb (rank p) (rank q) ≡ true
         there e = eq-eqb (rank p) (rank q) (rank_equal n columns small (w - 2) p q (λ k a.

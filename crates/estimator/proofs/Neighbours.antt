@@ -1,7 +1,7 @@
 -- In an order by rank, where equal positions have one rank, marks that clash can't be far apart: if no two neighbours clash, no two marks do. Assumes nothing.
 use mathlib.Core.Path.{◌≡◌, refl, sym, ap, subst, ◌∙◌}
 use mathlib.Core.Logic.{inl, inr}
-use mathlib.Core.Bool.{Bool, true, false, not, ◌&&◌, ◌||◌}
+use mathlib.Core.Bool.{Bool, true, false, not, ◌||◌}
 use mathlib.Core.List.{List, [], ◌∷◌}
 use Prim.Native.Nat.{ℕ, zero, suc, ◌+◌, ◌-◌, ◌≤◌, ◌<◌}
 use native.Mathlib.Nat.{le_antisymm, le_trans, le_of_eq, add-zero, add-suc, eq-or-lt_of_le}
@@ -14,8 +14,11 @@ use lib.Ieee.Bits.{is_true}
 use Rattle.std.specs.List.{list_any}
 use Rattle.std.specs.List.Sorted.{IsNonDecreasingBy}
 use Rattle.std.specs.Cmp.Lexicographic.{pointwise}
+use Rattle.std.proofs.lemmas.Bool.{and_parts, and_from, not-false}
+use Rattle.std.proofs.lemmas.List.Folds.{list_any_at, list_any_none}
+use Rattle.std.proofs.lemmas.List.Elements.{All-from_get_or}
 use Rattle.std.proofs.lemmas.Float.{eq_flip, eq_trans}
-use Rattle.rule.proofs.Tests.{le_or_gt, is_test, clash}
+use Rattle.rule.proofs.Tests.{le_or_gt, neither, is_test, clash}
 use Rattle.estimator.specs.Family.{Family}
 use Rattle.estimator.specs.Double.{position, pixel, doubled}
 use Rattle.estimator.specs.Double as Double
@@ -23,22 +26,13 @@ use Rattle.estimator.specs.Ranks.{neighbours}
 
 -- ---- equal numbers at each place
 
-both : (a b : Bool) → (a && b) ≡ true → (a ≡ true) × (b ≡ true)
-both true b h = (refl, h)
-both false b h = clash h refl
-
-and_both : (a b : Bool) → a ≡ true → b ≡ true → (a && b) ≡ true
-and_both true true p q = refl
-and_both true false p q = q
-and_both false b p q = p
-
 pub alike_back : (xs ys : List Float) → pointwise eq xs ys ≡ true → pointwise eq ys xs ≡ true
 alike_back [] [] h = refl
 alike_back [] (y ∷ ys) h = h
 alike_back (x ∷ xs) [] h = h
 alike_back (x ∷ xs) (y ∷ ys) h =
-    let r = both (eq x y) (pointwise eq xs ys) h in
-    and_both (eq y x) (pointwise eq ys xs) (is_true (eq y x) (eq_flip x y (is_test (eq x y) r.0))) (alike_back xs ys r.1)
+    let r = and_parts (eq x y) (pointwise eq xs ys) h in
+    and_from (eq y x) (pointwise eq ys xs) (is_true (eq y x) (eq_flip x y (is_test (eq x y) r.0))) (alike_back xs ys r.1)
 
 pub alike_on : (xs ys zs : List Float) → pointwise eq xs ys ≡ true → pointwise eq ys zs ≡ true → pointwise eq xs zs ≡ true
 alike_on [] [] [] h g = refl
@@ -47,28 +41,14 @@ alike_on [] (y ∷ ys) zs h g = clash h refl
 alike_on (x ∷ xs) [] zs h g = clash h refl
 alike_on (x ∷ xs) (y ∷ ys) [] h g = g
 alike_on (x ∷ xs) (y ∷ ys) (z ∷ zs) h g =
-    let r = both (eq x y) (pointwise eq xs ys) h in
-    let s = both (eq y z) (pointwise eq ys zs) g in
-    and_both (eq x z) (pointwise eq xs zs) (is_true (eq x z) (eq_trans x y z (is_test (eq x y) r.0) (is_test (eq y z) s.0))) (alike_on xs ys zs r.1 s.1)
+    let r = and_parts (eq x y) (pointwise eq xs ys) h in
+    let s = and_parts (eq y z) (pointwise eq ys zs) g in
+    and_from (eq x z) (pointwise eq xs zs) (is_true (eq x z) (eq_trans x y z (is_test (eq x y) r.0) (is_test (eq y z) s.0))) (alike_on xs ys zs r.1 s.1)
 
 -- ---- whether one of a list passes a test
 
-or_right : (a b : Bool) → b ≡ true → (a || b) ≡ true
-or_right true b h = refl
-or_right false b h = h
-
-neither : (a b : Bool) → (a || b) ≡ false → (a ≡ false) × (b ≡ false)
-neither true b h = clash refl h
-neither false b h = (refl, h)
-
-some_at : {A : Type 0} (t : A → Bool) (l : List A) (d : A) (i : ℕ) → i < length l → t (get_or l i d) ≡ true → list_any t l ≡ true
-some_at t [] d i h e = absurd (omega (arith, h))
-some_at t (a ∷ l) d zero h e = rw e refl
-some_at t (a ∷ l) d (suc i) h e = or_right (t a) (list_any t l) (some_at t l d i (omega (arith, h)) e)
-
 some_none : {A : Type 0} (t : A → Bool) (l : List A) (d : A) → ((i : ℕ) → i < length l → t (get_or l i d) ≡ false) → list_any t l ≡ false
-some_none t [] d each = refl
-some_none t (a ∷ l) d each = rw (each zero (omega arith), some_none t l d (λ i h. each (suc i) (omega (arith, h)))) refl
+some_none t l d each = list_any_none t l (All-from_get_or (λ a. t a ≡ false) l d each)
 
 -- ---- neighbours
 
@@ -115,10 +95,6 @@ module _ {E M K : Type 0} (f : Family E M K) (mark : ℕ → K) (rank : ℕ → 
   unfolding Double.clash
   test_other p q h g e = rw (decides p q h g, e) refl
 
-  not_false : (b : Bool) → not b ≡ false → b ≡ true
-  not_false true h = refl
-  not_false false h = sym h
-
   module _ (none : (k : ℕ) → k + 1 < length l → test (at k) (at (suc k)) ≡ false) where
     rank_between : (i d : ℕ) → i + suc d < length l → rank (at i) ≡ rank (at (i + suc d)) → rank (at i) ≡ rank (at (i + d))
     unfolding at
@@ -131,7 +107,7 @@ module _ {E M K : Type 0} (f : Family E M K) (mark : ℕ → K) (rank : ℕ → 
         let same = rank_between i d h e in
         let before = chain i d (omega (arith, h)) same in
         let j = i + d in
-        let next = not_false (alike (at j) (at (suc j))) (sym (test_same (at j) (at (suc j)) (inside j (omega (arith, h))) (inside (suc j) (omega (arith, h))) (sym same ∙ e ∙ ap (λ (k : ℕ). rank (at k)) (add-suc i d))) ∙ none j (omega (arith, h))) in
+        let next = not-false (alike (at j) (at (suc j))) (sym (test_same (at j) (at (suc j)) (inside j (omega (arith, h))) (inside (suc j) (omega (arith, h))) (sym same ∙ e ∙ ap (λ (k : ℕ). rank (at k)) (add-suc i d))) ∙ none j (omega (arith, h))) in
         rw (add-suc i d) (alike_on (pixel f (mark (at i))) (pixel f (mark (at j))) (pixel f (mark (at (suc j)))) before next)
 
     decided : (b : Bool) (p q : ℕ) → p < n → q < n → eqb (rank p) (rank q) ≡ b → (rank p ≡ rank q → alike p q ≡ true) → test p q ≡ false
@@ -158,7 +134,7 @@ module _ {E M K : Type 0} (f : Family E M K) (mark : ℕ → K) (rank : ℕ → 
           let r = one_some test l (length l - 1) e in
           let k = r.0 in
           let h = r.1 in
-          e ∙ sym (some_at (λ p. list_any (test p) l) l 0 k (omega (arith, h)) (some_at (test (at k)) l 0 (suc k) (omega (arith, h)) r.2))
+          e ∙ sym (list_any_at (λ p. list_any (test p) l) l k 0 (omega (arith, h)) (list_any_at (test (at k)) l (suc k) 0 (omega (arith, h)) r.2))
       go false e =
           let none : (k : ℕ) → k + 1 < length l → test (at k) (at (suc k)) ≡ false = λ k h. none_each test l (length l - 1) e k (omega (arith, h)) in
           e ∙ sym (some_none (λ p. list_any (test p) l) l 0 (λ i h. some_none (test (at i)) l 0 (λ j g. any_two none i j h g)))

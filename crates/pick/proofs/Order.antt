@@ -40,11 +40,7 @@ pub none_left : 0 ≡ first_failed []
 unfolding first_failed
 none_left = refl
 
--- a refusal's number is not 0
-pub above_0 : (e : Refusal) → eqb (number_of e) 0 ≡ false
-above_0 e = ne_eqb (number_of e) 0 (number_above_0 e)
-
--- so it refuses
+-- a refusal's number is not 0, so it refuses
 pub refuses : {A : Type 0} (e : Refusal) (a : A) {k : ℕ} → number_of e ≡ k → refused (number_of e) ≡ decided k a
 refuses e a h = rw (← h) (decided_some (number_of e) a (number_above_0 e))
 

@@ -11,7 +11,7 @@ use estimator::Estimator;
 use rule::Refusal;
 
 // The tests after 11, in order.
-#[tactic(auto, using(estimator::proofs::Run::run_first, crate::proofs::Order::above_0), unfolding(rule::specs::Order::first_failed, rule::specs::Order::room, crate::specs::Indices::marks_order, estimator::specs::Marks::of_run))]
+#[tactic(auto, using(estimator::proofs::Run::run_first, estimator::proofs::Order::above_0), unfolding(rule::specs::Order::first_failed, rule::specs::Order::room, crate::specs::Indices::marks_order, estimator::specs::Marks::of_run))]
 fn check_order<E: Estimator>(n: usize, marks: &[f64], places: usize) -> Result<(), Refusal>
     ensures refusal_value { refusal_in result ≡ first_failed (marks_order E.family n marks.now places) }
     ensures few_enough { OnOk result (length (E.family.marks_of marks.now) ≤ 2000) }

@@ -34,7 +34,7 @@ pub fn fresh_run<E: Copy, M: Copy>(e: E, o: RansacOptions, n: usize) -> State<E,
 }
 
 // The tests of an opening, in order.
-#[tactic(auto, using(crate::proofs::Order::options_first, estimator::proofs::Run::run_first, crate::proofs::Order::above_0), unfolding(rule::specs::Order::first_failed, crate::specs::Opening::opening_tests, estimator::specs::Marks::entries))]
+#[tactic(auto, using(crate::proofs::Order::options_first, estimator::proofs::Run::run_first, estimator::proofs::Order::above_0), unfolding(rule::specs::Order::first_failed, crate::specs::Opening::opening_tests, estimator::specs::Marks::entries))]
 fn check_order<E: Estimator>(
     e: E,
     o: RansacOptions,
