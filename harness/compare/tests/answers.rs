@@ -38,7 +38,7 @@ fn the_form_file_shows_every_refusal() {
     let shows = |kind: u64, number: u64| list.iter().any(|r| (r[0], r[3]) == (kind, number));
     let expected = [
         (1, vec![0, 5, 6, 18, 9, 12]),
-        (2, vec![0, 5, 6, 18, 7, 9, 12]),
+        (2, vec![0, 5, 6, 7, 18, 9, 12]),
         (3, vec![0, 1, 6, 16, 17]),
         (4, vec![0]),
     ];
@@ -63,7 +63,7 @@ fn the_sheet_file_shows_every_refusal() {
     let expected = [
         (1, vec![0, 5, 6, 18, 9, 12]),
         (2, vec![0, 5, 6, 18]),
-        (3, vec![0, 5, 6, 18, 7, 9, 13, 14]),
+        (3, vec![0, 5, 6, 7, 18, 9, 13, 14]),
         (4, vec![0, 1, 6, 16]),
     ];
     for (kind, numbers) in expected {

@@ -1,7 +1,8 @@
 //! Marks of one position and two pixels, at every entry that takes a list of
-//! marks: 18, directly after 6. Each call is held to the oracle, whose test is two
-//! loops over all pairs, and to what a case says of itself. A distance has one
-//! mark, and reads none twice.
+//! marks: 18, directly after 7, or after 6 where an entry asks for no number of
+//! marks. Each call is held to the oracle, whose test is two loops over all pairs,
+//! and to what a case says of itself and the entry's order makes of it. A distance
+//! has one mark, and reads none twice.
 
 use compare::families::Proved;
 use compare::lists::compare_lent;
@@ -25,8 +26,9 @@ for_each_family!(
     the_most_marks,
     random_lists,
     long_random_lists,
-    few_marks,
-    pairs_of_faults,
+    short_lists,
+    one_position,
+    sets_of_faults,
     not_the_runs_number,
     bad_numbers,
     too_many,
@@ -54,8 +56,8 @@ const GOOD: Setting = Setting {
     room: true,
 };
 
-/// An entry by name, the order in which it refuses, and the call: what it answers,
-/// 0 for what is no refusal.
+/// An entry by name, the order in which document 02 has it refuse, and the call:
+/// what it answers, 0 for what is no refusal.
 struct Entry<'a> {
     name: &'static str,
     order: &'static [u32],
@@ -66,6 +68,12 @@ impl<'a> Entry<'a> {
     fn new(name: &'static str, order: &'static [u32], call: impl Fn() -> u32 + 'a) -> Self {
         let call = Box::new(call);
         Self { name, order, call }
+    }
+
+    /// The first fault in its order that holds, or 0.
+    fn first(&self, holds: impl Fn(u32) -> bool) -> u32 {
+        let first = self.order.iter().find(|&&number| holds(number));
+        first.copied().unwrap_or(0)
     }
 }
 
@@ -144,8 +152,8 @@ impl Entries for Sheet {
             Entry::new("of pixels", &[5, 6, 18, 12, 9], move || normalising(1)),
             Entry::new("collinear", &[5, 6, 18], || collinear(marks, 0)),
             Entry::new("pixels collinear", &[5, 6, 18], || collinear(marks, 1)),
-            Entry::new("rows", &[5, 6, 18, 7, 13, 14, 9], rows),
-            Entry::new("whole run", &[5, 6, 18, 7, 8, 9], run),
+            Entry::new("rows", &[5, 6, 7, 18, 13, 14, 9], rows),
+            Entry::new("whole run", &[5, 6, 7, 18, 8, 9], run),
         ]
     }
 }
@@ -171,7 +179,7 @@ impl Entries for Form {
         };
         vec![
             Entry::new("normalising", &[5, 6, 18, 12, 9], normalising),
-            Entry::new("rows", &[5, 6, 18, 7, 12, 9], rows),
+            Entry::new("rows", &[5, 6, 7, 18, 12, 9], rows),
         ]
     }
 }
@@ -267,31 +275,39 @@ fn all<'a, F: Entries>(marks: &'a [f64], setting: &'a Setting) -> Vec<Entry<'a>>
     let state = move || state::<F>(n, setting);
     let mut list = F::others(marks, setting);
     list.extend([
-        Entry::new("opening", &[5, 6, 18, 7, 8], move || {
+        Entry::new("opening", &[5, 6, 7, 18, 8], move || {
             opening::<F>(marks, &stops())
         }),
-        Entry::new("trial", &[10, 5, 6, 18, 7, 8, 1], move || {
+        Entry::new("trial", &[10, 5, 6, 7, 18, 8, 1], move || {
             trial(state(), marks, &stops(), setting)
         }),
-        Entry::new("indices", &[11, 5, 6, 18, 7, 9], move || {
+        Entry::new("indices", &[11, 5, 6, 7, 18, 9], move || {
             indices(&state(), marks, places(n, setting))
         }),
     ]);
     list
 }
 
-/// With all else in order, every entry answers 18 where marks clash, and none
-/// where they don't.
+/// With all else in order, every entry answers 7 where it asks for more marks, else
+/// 18 where they clash.
 fn check<F: Entries>(marks: &[f64], clash: bool) {
     for entry in all::<F>(marks, &GOOD) {
-        is_18(&entry, marks, clash);
+        is_told::<F>(&entry, marks, clash);
     }
 }
 
-fn is_18(entry: &Entry, marks: &[f64], clash: bool) {
+/// Where neither is told, none is, but that the marks have no spread or lie on a
+/// line, at the entries that see it.
+fn is_told<F: Entries>(entry: &Entry, marks: &[f64], clash: bool) {
     let number = (entry.call)();
-    let about = &marks[..marks.len().min(60)];
-    assert_eq!(number == 18, clash, "{}: {number}, {about:?}", entry.name);
+    let few = marks.len() / F::WIDTH < F::FEWEST;
+    let first = entry.first(|number| (number == 7 && few) || (number == 18 && clash));
+    let of_places = [12, 13, 14].contains(&number) && entry.order.contains(&number);
+    let (name, about) = (entry.name, &marks[..marks.len().min(60)]);
+    assert!(
+        number == first || (first == 0 && of_places),
+        "{name}: {number}, not {first}, {about:?}"
+    );
 }
 
 /// The same of long lists, which the oracle's loops take long for: one entry each,
@@ -299,7 +315,7 @@ fn is_18(entry: &Entry, marks: &[f64], clash: bool) {
 fn check_long<F: Entries>(lists: impl IntoIterator<Item = Doubled>) {
     for (turn, (marks, clash)) in lists.into_iter().enumerate() {
         let entries = all::<F>(&marks, &GOOD);
-        is_18(&entries[turn % entries.len()], &marks, clash);
+        is_told::<F>(&entries[turn % entries.len()], &marks, clash);
     }
 }
 
@@ -351,16 +367,92 @@ fn the_most_marks<F: Entries>() {
     check_long::<F>(the_most::<F>());
 }
 
-/// Few marks that clash are 18, and others are 7 where that is asked.
-fn few_marks<F: Entries>() {
-    for n in 2..F::FEWEST {
-        for (marks, clash) in pairs::<F>(&[n]) {
-            for Entry { name, order, call } in all::<F>(&marks, &GOOD) {
-                let number = call();
-                let without = if order.contains(&7) { 7 } else { number };
-                let expected = if clash { 18 } else { without };
-                assert_eq!(number, expected, "{name} of {marks:?}");
-            }
+/// What is known of a short list.
+#[derive(Clone, Copy, Debug)]
+struct Short {
+    n: usize,
+    clash: bool,
+    /// It has a number that none may have.
+    bad: bool,
+    /// Its marks are none, or all at one position.
+    one: bool,
+}
+
+impl Short {
+    /// Document 02's order 7, by hand: what an entry tells that asks for so many
+    /// marks, or for no number of them; and for points with spread, or not.
+    fn told(self, fewest: Option<usize>, spread: bool) -> u32 {
+        match self {
+            Short { bad: true, .. } => 6,
+            Short { n, .. } if fewest.is_some_and(|fewest| n < fewest) => 7,
+            Short { clash: true, .. } => 18,
+            Short { one: true, .. } if spread => 12,
+            _ => 0,
+        }
+    }
+}
+
+/// Short lists of every length to 6: marks apart, and one that stands at every two
+/// places, with one pixel and with two. Of none and of one there are no two.
+fn short<F: Entries>() -> Vec<(Vec<f64>, Short)> {
+    let mut list = Vec::new();
+    for n in 0..=6 {
+        let pairs = pairs::<F>(&[n]);
+        assert_eq!(pairs.len(), 4 * n * n.saturating_sub(1));
+        let alone = [(flat(&apart::<F>(n)), false)];
+        for (place, (marks, clash)) in alone.into_iter().chain(pairs).enumerate() {
+            let one = n < 2 || (n == 2 && place > 0);
+            let bad = false;
+            list.push((marks, Short { n, clash, bad, one }));
+        }
+    }
+    list
+}
+
+fn told_of_short<F: Entries>(marks: &[f64], short: Short) {
+    for Entry { name, order, call } in all::<F>(marks, &GOOD) {
+        let fewest = order.contains(&7).then_some(F::FEWEST);
+        let told = short.told(fewest, order.contains(&12));
+        assert_eq!(call(), told, "{name}: {short:?}, {marks:?}");
+    }
+}
+
+/// Short comes first where an entry asks how many marks there are, doubled second;
+/// a bad number at any place is before both.
+fn short_lists<F: Entries>() {
+    for (marks, short) in short::<F>() {
+        told_of_short::<F>(&marks, short);
+        for place in 0..marks.len() {
+            let mut marks = marks.clone();
+            marks[place] = [f64::NAN, f64::INFINITY, -2e9][place % 3];
+            told_of_short::<F>(&marks, Short { bad: true, ..short });
+        }
+    }
+}
+
+/// Marks that are all at one position, from two on, with all pixels unequal, on a
+/// line or not, or only one, at any place: 7 while they are few, and then 18, before
+/// their line and their spread.
+fn one_position<F: Entries>() {
+    let last = F::WIDTH - 1;
+    for n in (2..=12).chain([100]) {
+        let marks = apart::<F>(n);
+        let at_one = |mark: &F::Mark, bend: f64| {
+            F::Mark::from_fn(|k| match k {
+                k if k < F::WIDTH - 2 => 3.0,
+                k if k == last => bend * mark.as_ref()[k],
+                k => mark.as_ref()[k],
+            })
+        };
+        for bend in [0.0, 1.0] {
+            let pixels: Vec<F::Mark> = marks.iter().map(|mark| at_one(mark, bend)).collect();
+            check::<F>(&flat(&pixels), true);
+        }
+        for place in 0..n {
+            let mut marks = vec![at_one(&marks[0], 1.0); n];
+            check::<F>(&flat(&marks), false);
+            marks[place].as_mut()[last] += 1.0;
+            check::<F>(&flat(&marks), true);
         }
     }
 }
@@ -408,7 +500,7 @@ fn long_random_lists<F: Entries>() {
 // The orders.
 
 /// Every fault that a call may have, in no entry's order.
-const FAULTS: [u32; 12] = [10, 11, 5, 6, 18, 7, 13, 14, 12, 8, 1, 9];
+const FAULTS: [u32; 12] = [10, 11, 5, 6, 7, 18, 13, 14, 12, 8, 1, 9];
 
 /// Marks with these faults.
 fn faulty<F: Entries>(bad: &dyn Fn(u32) -> bool) -> Vec<f64> {
@@ -439,25 +531,28 @@ fn faulty<F: Entries>(bad: &dyn Fn(u32) -> bool) -> Vec<f64> {
     list
 }
 
-/// Every two faults, at every entry: the first in its order is told. Marks at one
+/// Every set of faults, at every entry: the first in its order is told. Marks at one
 /// position are on a line too.
-fn pairs_of_faults<F: Entries>() {
-    for (place, &first) in FAULTS.iter().enumerate() {
-        for &second in &FAULTS[place..] {
-            let bad = |number: u32| first == number || second == number;
-            let setting = Setting {
-                ended: bad(10),
-                none: bad(11),
-                stops: !bad(8),
-                record: !bad(1),
-                room: !bad(9),
-            };
-            let marks = faulty::<F>(&bad);
-            for Entry { name, order, call } in all::<F>(&marks, &setting) {
-                let holds = |k: &&u32| bad(**k) || ([13, 14].contains(*k) && bad(12));
-                let expected = order.iter().find(holds).copied().unwrap_or(0);
-                assert_eq!(call(), expected, "{name}: {first} and {second}");
-            }
+fn sets_of_faults<F: Entries>() {
+    for set in 0..1 << FAULTS.len() {
+        let faults = FAULTS.iter().enumerate();
+        let faults = faults.filter(|(place, _)| set >> place & 1 == 1);
+        let faults: Vec<u32> = faults.map(|(_, &number)| number).collect();
+        let bad = |number: u32| faults.contains(&number);
+        let setting = Setting {
+            ended: bad(10),
+            none: bad(11),
+            stops: !bad(8),
+            record: !bad(1),
+            room: !bad(9),
+        };
+        let marks = faulty::<F>(&bad);
+        let list = F::Mark::chunks(&marks).0;
+        assert_eq!(list.len() < F::FEWEST, bad(7), "{faults:?}");
+        assert_eq!(single(list).is_err(), bad(18), "{faults:?}");
+        for entry in all::<F>(&marks, &setting) {
+            let first = entry.first(|k| bad(k) || ([13, 14].contains(&k) && bad(12)));
+            assert_eq!((entry.call)(), first, "{}: {faults:?}", entry.name);
         }
     }
 }

@@ -199,7 +199,7 @@ fn hand_made_ratios<F: Proved>() {
     }
 }
 
-/// 11, 5, 6, 18, 7, 9; and a state that has not all its words.
+/// 11, 5, 6, 7, 18, 9; and a state that has not all its words.
 fn order<F: Proved>() {
     let case = F::example();
     let mut words = run(&case);
@@ -218,7 +218,9 @@ fn order<F: Proved>() {
     words[5] = F::FEWEST as u64 - 1;
     let few = F::WIDTH * (F::FEWEST - 1);
     assert_eq!(compare::<F>(&words, &marks[..few], 0), 7);
-    assert_eq!(compare::<F>(&words, &doubled[..few], 0), 18);
+    assert_eq!(compare::<F>(&words, &doubled[..few], 0), 7);
+    words[5] = F::FEWEST as u64;
+    assert_eq!(compare::<F>(&words, &doubled[..few + F::WIDTH], 0), 18);
     words[5] = u64::MAX;
     assert_eq!(compare::<F>(&words, marks, n), 5);
     words[11] = 0;

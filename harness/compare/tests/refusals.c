@@ -1,6 +1,6 @@
 /* The writers' refusals by the header's names, with NULL for what is empty, and
-   the run's of options by their length and their ratio, and of marks of one
-   position and two pixels.
+   the run's of options by their length and their ratio, and of few marks and
+   marks of one position and two pixels.
    Exits with the line of the first that differs, or 0. */
 #include <math.h>
 #include <string.h>
@@ -28,27 +28,35 @@ static uint32_t mark(int place, double x, double y, double u, double v)
     return salghemu_write_mark(x, y, u, v, marks + place * SALGHEMU_MARK_BYTES, SALGHEMU_MARK_BYTES);
 }
 
-/* A mark by itself is written whatever the others are. */
+/* What it answers to the first two marks, the first three and all four. */
+static int answers(uint32_t two, uint32_t three, uint32_t four)
+{
+    return run_marks(2 * SALGHEMU_MARK_BYTES) == two && run_marks(3 * SALGHEMU_MARK_BYTES) == three
+        && run_marks(sizeof marks) == four;
+}
+
+/* A mark by itself is written whatever the others are. Two or three are few,
+   though two of them clash. */
 static int doubles(void)
 {
-    const size_t all = sizeof marks, two = 2 * SALGHEMU_MARK_BYTES;
     IS(0, salghemu_write_options(2, 0.5, 1, 4, 1, 1, options, sizeof options));
     IS(0, mark(0, 0.0, 5, 0.0, 7));
+    IS(0, mark(2, 1, 5, 1, 7));
+    IS(0, mark(3, 0.0, 6, 1, 7));
     IS(0, mark(1, -0.0, 5, 1, 7));
-    IS(SALGHEMU_DOUBLE, run_marks(two));
+    IS(1, answers(SALGHEMU_FEW, SALGHEMU_FEW, SALGHEMU_DOUBLE));
     IS(0, mark(1, 0.0, 5, 0.0, 8));
-    IS(SALGHEMU_DOUBLE, run_marks(two));
+    IS(1, answers(SALGHEMU_FEW, SALGHEMU_FEW, SALGHEMU_DOUBLE));
     IS(0, mark(1, -0.0, 5, -0.0, 7));
-    IS(SALGHEMU_FEW, run_marks(two));
-    IS(0, mark(1, 1, 5, 1, 7));
-    IS(0, mark(2, 0.0, 6, 1, 7));
-    IS(0, mark(3, 0.0, 5, 0.0, 7));
-    IS(SALGHEMU_STOPS, run_marks(all));
+    IS(1, answers(SALGHEMU_FEW, SALGHEMU_FEW, SALGHEMU_STOPS));
     IS(0, mark(3, 0.0, 5, 5e-324, 7));
-    IS(SALGHEMU_DOUBLE, run_marks(all));
-    IS(SALGHEMU_SHAPE, run_marks(all - 1));
+    IS(1, answers(SALGHEMU_FEW, SALGHEMU_FEW, SALGHEMU_DOUBLE));
+    IS(0, mark(2, 0.0, 5, 1, 7));
+    IS(1, answers(SALGHEMU_FEW, SALGHEMU_FEW, SALGHEMU_DOUBLE));
+    IS(SALGHEMU_SHAPE, run_marks(sizeof marks - 1));
+    IS(SALGHEMU_SHAPE, run_marks(3 * SALGHEMU_MARK_BYTES - 1));
     memset(marks, 0xff, sizeof(double));
-    IS(SALGHEMU_POINT, run_marks(all));
+    IS(1, answers(SALGHEMU_POINT, SALGHEMU_POINT, SALGHEMU_POINT));
     return 0;
 }
 

@@ -15,11 +15,11 @@ const SKIPPED: u32 = 2;
 /// Every number that a sheet's rows may answer but 12, which has not come up: a
 /// cross product above 1e-6 needs a point more than 1e-4 from the first, and
 /// points with one so far should have spread.
-const ANSWERS: [u32; 8] = [0, 5, 6, 18, 7, 9, 13, 14];
+const ANSWERS: [u32; 8] = [0, 5, 6, 7, 18, 9, 13, 14];
 
 /// Whether the Rust asks its collinear tests, and they may differ from 01's.
 fn rows_differ(marks: &[f64], number: u32) -> bool {
-    ![5, 6, 18, 7].contains(&number) && [0, 1].iter().any(|&side| closeness_differs(marks, side))
+    ![5, 6, 7, 18].contains(&number) && [0, 1].iter().any(|&side| closeness_differs(marks, side))
 }
 
 /// Compares one, with the lent list; tells the refusal, 0 or SKIPPED.
@@ -52,7 +52,7 @@ const OF_A_SHEET: Entry = Entry {
 const OF_A_FORM: Entry = Entry {
     title: "rows of forms",
     places: 24,
-    answers: &[0, 5, 6, 18, 7, 9, 12],
+    answers: &[0, 5, 6, 7, 18, 9, 12],
     compare: &|_, marks, room| compare_form(marks, room),
 };
 
@@ -81,7 +81,7 @@ fn lists_of_forms() {
     OF_A_FORM.random_lists::<Form>(72, 60_000);
 }
 
-/// 5, 6, 18, 7, 12, 9. A form's points on a line or a plane are no refusal: `dlt`
+/// 5, 6, 7, 18, 12, 9. A form's points on a line or a plane are no refusal: `dlt`
 /// finds that out behind its rows.
 #[test]
 fn order_of_forms() {

@@ -15,7 +15,7 @@ use oracle::{Run, Sheet, Trial, Winner, stop_list};
 use proved::pick::salghemu_run;
 
 /// Every number that the whole run may answer.
-const ANSWERS: [u32; 13] = [0, 1, 2, 3, 4, 16, 5, 6, 18, 7, 8, 9, 11];
+const ANSWERS: [u32; 13] = [0, 1, 2, 3, 4, 16, 5, 6, 7, 18, 8, 9, 11];
 
 /// A number of runs from which on every answer must come up.
 const LONG: usize = 2_000;
@@ -323,11 +323,11 @@ fn faults_behind(case: &Case) -> Vec<(Bytes, u32)> {
     list.push((bytes.clone(), 1));
     bytes.stops.clear();
     list.push((bytes.clone(), 8));
-    bytes.marks.truncate(96);
-    list.push((bytes.clone(), 7));
     // The second mark at the first one's place; its pixel stays.
     bytes.marks.copy_within(..16, 32);
     list.push((bytes.clone(), 18));
+    bytes.marks.truncate(96);
+    list.push((bytes.clone(), 7));
     bytes.marks[..8].fill(0xff);
     list.push((bytes.clone(), 6));
     bytes.marks.truncate(95);

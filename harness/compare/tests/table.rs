@@ -74,7 +74,7 @@ fn fresh(name: &str) -> PathBuf {
 
 /// The sheet of examples/ gives what stands beside it, also with options that
 /// have no ratio; without one of its files, with a ratio of 0, or with a mark at
-/// two pixels, it gives the refusal's name.
+/// two pixels, of five marks or of three, it gives the refusal's name.
 #[test]
 fn the_sample_prints() {
     let (sheet, files) = example::files();
@@ -111,6 +111,10 @@ fn the_sample_prints() {
     fs::write(folder.join("options.bin"), &short).expect("a file");
     fs::write(folder.join("marks.bin"), doubled.bytes().marks).expect("a file");
     assert_eq!(printed(&TABLE, &folder), "refused: DOUBLE\n");
+    doubled.marks.copy_within(16.., 8);
+    doubled.marks.truncate(12);
+    fs::write(folder.join("marks.bin"), doubled.bytes().marks).expect("a file");
+    assert_eq!(printed(&TABLE, &folder), "refused: FEW\n");
     fs::remove_dir_all(&folder).expect("the folder goes");
 }
 

@@ -1,8 +1,9 @@
 //! 01's picker, read from its text alone, with what 02's order 2 adds to a
-//! trial's answer, order 3 to the options and order 6 to the tests of marks, and
-//! for any family, as order 5 has it: the records, the refusals in their orders, judging a trial, the
-//! book, a trial on any state, and the winner's indices. Nothing here is taken
-//! from `ransac_fit`, so that each can be held to the other.
+//! trial's answer, order 3 to the options and orders 6 and 7 to the tests of
+//! marks, and for any family, as order 5 has it: the records, the refusals in
+//! their orders, judging a trial, the book, a trial on any state, and the winner's
+//! indices. Nothing here is taken from `ransac_fit`, so that each can be held to
+//! the other.
 //!
 //! Marks are one flat list. A refusal is its number.
 
@@ -181,17 +182,17 @@ pub fn trial_record<M: Numbers>(trial: &Trial<M>) -> Vec<u8> {
 
 // Marks.
 
-/// 5, 6, 18, 7; where a run has its n, the list's is the same.
+/// 5, 6, 7, 18; where a run has its n, the list's is the same.
 fn marks_tested<F: Family>(marks: &[f64], n: Option<u64>) -> Result<&[F::Mark], u32> {
     let list = shaped::<F>(marks)?;
     if n.is_some_and(|n| n != list.len() as u64) {
         return Err(SHAPE);
     }
     allowed(marks)?;
-    single(list)?;
     if list.len() < F::FEWEST {
         return Err(FEW);
     }
+    single(list)?;
     Ok(list)
 }
 
@@ -263,7 +264,7 @@ fn score<F: Family>(fed: &Fed<F>, model: &F::Model, marks: &[F::Mark]) -> (u32, 
     (count, rms)
 }
 
-/// Refuses in the order 5, 6, 18, 7, 8, 1, or judges. With it, how many marks are
+/// Refuses in the order 5, 6, 7, 18, 8, 1, or judges. With it, how many marks are
 /// beyond under the fit; 0 where it refuses.
 pub fn judge<F: Family>(fed: &Fed<F>, call: &Call) -> (Judged<F::Model>, u32) {
     match tested::<F>(fed.n, call) {
@@ -451,7 +452,7 @@ impl State {
 }
 
 impl<F: Family> State<F> {
-    /// Opening from the types: 2 to 4, 16, 5, 6, 18, 7, 8, and 17 of a form's
+    /// Opening from the types: 2 to 4, 16, 5, 6, 7, 18, 8, and 17 of a form's
     /// camera.
     pub fn open(family: F, options: Options, marks: &[f64], stops: &[u32]) -> Result<Self, u32> {
         options.tested()?;
@@ -501,7 +502,7 @@ impl<F: Family> State<F> {
         self.book.call(&self.fed(), call)
     }
 
-    /// The winner's indices for a list with `room` places: 11, 5, 6, 18, 7, 9.
+    /// The winner's indices for a list with `room` places: 11, 5, 6, 7, 18, 9.
     pub fn winner_indices(&self, marks: &[f64], room: usize) -> Result<Vec<u32>, u32> {
         let winner = self.book.winner.ok_or(NONE)?;
         let marks = marks_tested::<F>(marks, Some(self.n))?;

@@ -1,6 +1,7 @@
 //! Marks of one position and two pixels, 02's order 6: lists of any family that 18
 //! refuses, and lists near them that it doesn't. Each is told by hand to clash or
-//! not; nothing here asks the oracle.
+//! not; nothing here asks the oracle. Where an entry asks how many marks there are,
+//! those that are few are 7 before, as 02's order 7 has it.
 
 use crate::cases::{Random, step};
 use crate::family::{Family, Numbers};
@@ -11,7 +12,7 @@ use crate::{FormMark, Mark};
 pub type Doubled = (Vec<f64>, bool);
 
 /// The origin seen at two pixels, and the ends of both axes: the smallest list of a
-/// run that clashes, whose first two and first three do too.
+/// run that clashes, whose first two and first three do too, and are few.
 pub const FOUR: [Mark; 4] = [
     [0.0, 0.0, 0.0, 0.0],
     [0.0, 0.0, 1.0, 0.0],
@@ -248,7 +249,9 @@ pub fn few<F: Family>() -> Vec<Vec<f64>> {
     list.push(vec![first, marks[1], other]);
     list.push(vec![first, first, marks[1], other]);
     // No spread, and on a line.
-    list.push(vec![with(&first, &[(u + 1, -0.0)]), first, first, first]);
+    let mut one = vec![first; F::FEWEST];
+    one[0] = with(&first, &[(u + 1, -0.0)]);
+    list.push(one);
     let zeros = with(&first, &[(0, 0.0), (1, -0.0), (u, -0.0), (u + 1, 0.0)]);
     let opposite = with(&first, &[(0, -0.0), (1, 0.0), (u, 0.0), (u + 1, -0.0)]);
     let tiny = with(&opposite, &[(u, 5e-324)]);

@@ -1,6 +1,6 @@
 //! The entries as 01 has them for sheets and 02's order 5 for forms: the
 //! original functions with the refusals in front, in their order, and 02's 16
-//! and 18 where they belong.
+//! and 18 where they belong, as orders 3, 6 and 7 have it.
 //!
 //! Marks are one flat list, four numbers each or a form's five. A side is 0 for
 //! the sheet and anything else for the pixels. Results go to a lent list: a
@@ -46,10 +46,16 @@ pub(crate) fn shaped<F: Family>(marks: &[f64]) -> Result<&[F::Mark], u32> {
     Ok(list)
 }
 
-/// 5, 6, 18. The whole list is tested, whichever side is asked for.
-fn tested<F: Family>(marks: &[f64]) -> Result<&[F::Mark], u32> {
+/// 5, 6. The whole list is tested, whichever side is asked for.
+fn read<F: Family>(marks: &[f64]) -> Result<&[F::Mark], u32> {
     let list = shaped::<F>(marks)?;
     allowed(marks)?;
+    Ok(list)
+}
+
+/// 5, 6, 18, for an entry that takes a list of any number of marks.
+fn tested<F: Family>(marks: &[f64]) -> Result<&[F::Mark], u32> {
+    let list = read::<F>(marks)?;
     single(list)?;
     Ok(list)
 }
@@ -124,23 +130,31 @@ pub fn collinear(marks: &[f64], side: u32) -> Result<bool, u32> {
     Ok(sheet::points_are_collinear(&side_of(marks, side)))
 }
 
-/// Rows: 5, 6, 18, 7, 13, 14, 12, 9. From 7 to 12 they are `dlt_homography`'s own.
-/// Not to be compared where [`closeness_differs`] on either side.
-pub fn rows(marks: &[f64], rows: &mut [f64]) -> Result<(), u32> {
-    let marks = tested::<Sheet>(marks)?;
-    let list = sheet::dlt_rows(marks).map_err(|error| number(&error))?;
-    put(rows, &list)
+/// The original's answer, with 18 between its own 7 and all else.
+fn with_double<M: Numbers>(marks: &[M], original: Result<Vec<f64>, u32>) -> Result<Vec<f64>, u32> {
+    if original != Err(FEW) {
+        single(marks)?;
+    }
+    original
 }
 
-/// A form's rows: 5, 6, 18, 7, 12, 9. 7 and 12 are `dlt`'s own.
+/// Rows: 5, 6, 7, 18, 13, 14, 12, 9. 7, 13, 14 and 12 are `dlt_homography`'s own.
+/// Not to be compared where [`closeness_differs`] on either side.
+pub fn rows(marks: &[f64], rows: &mut [f64]) -> Result<(), u32> {
+    let marks = read::<Sheet>(marks)?;
+    let original = sheet::dlt_rows(marks).map_err(|error| number(&error));
+    put(rows, &with_double(marks, original)?)
+}
+
+/// A form's rows: 5, 6, 7, 18, 12, 9. 7 and 12 are `dlt`'s own.
 pub fn rows_form(marks: &[f64], rows: &mut [f64]) -> Result<(), u32> {
-    let marks = tested::<Form>(marks)?;
-    let list = form::dlt_rows_3d(marks).map_err(|error| match error {
+    let marks = read::<Form>(marks)?;
+    let original = form::dlt_rows_3d(marks).map_err(|error| match error {
         GeometryError::InsufficientData { need: 6, .. } => FEW,
         GeometryError::Singular => SPREAD,
         other => panic!("no refusal of the order: {other}"),
-    })?;
-    put(rows, &list)
+    });
+    put(rows, &with_double(marks, original)?)
 }
 
 /// 01's number for an error of `dlt_homography` on its way to the rows.

@@ -20,7 +20,7 @@ pub struct Opened {
     pub stops: Vec<u32>,
 }
 
-/// Opening from bytes: 1 to 4, 16, 5, 6, 18, 7, 8, with the byte lengths as 5 and
+/// Opening from bytes: 1 to 4, 16, 5, 6, 7, 18, 8, with the byte lengths as 5 and
 /// 8.
 pub fn open(inputs: &Inputs) -> Result<Opened, u32> {
     Options::of_record(inputs.options)?.tested()?;

@@ -265,7 +265,9 @@ fn openings_refuse_in_their_order() {
         ..good
     };
     let (marks7, doubled) = (&SQUARE[..7], &doubled());
-    let cases: [(Options, &[f64], &[u32], u32); 18] = [
+    let mut wide = doubled[..12].to_vec();
+    wide[9] = 2e9;
+    let cases: [(Options, &[f64], &[u32], u32); 21] = [
         (by(nan, bad_all), marks7, &[], 2),
         (by(nan, with(2.0, 1.0, 0)), marks7, &[], 3),
         (by(nan, with(2.0, 0.5, 100_001)), marks7, &[], 4),
@@ -278,7 +280,10 @@ fn openings_refuse_in_their_order() {
         (good, &[nan; 8], &[], 6),
         (by(nan, good), doubled, &[], 16),
         (good, &doubled[..7], &[], 5),
-        (good, &doubled[..12], &[], 18),
+        (good, &wide, &[], 6),
+        (good, &doubled[..8], &[], 7),
+        (good, &doubled[..12], &[], 7),
+        (good, &doubled[..16], &[], 18),
         (good, doubled, &STOPS[..5], 18),
         (good, &SQUARE[..12], &[], 7),
         (good, &SQUARE, &STOPS[..5], 8),
@@ -390,11 +395,15 @@ fn trials_refuse_in_their_order() {
         after.book.bound = 0;
         assert_eq!(after.trial(&call).number(), 10);
     }
-    // A hand-made n of three: 7, where the list has three too, and 18 before it.
+    // A hand-made n of three: 7, where the list has three too, though two clash;
+    // of four, 18.
     let mut three = state;
     three.n = 3;
     assert_eq!(three.trial(&call(&SQUARE[..12], &[], &bad)).number(), 7);
-    assert_eq!(three.trial(&call(&doubled[..12], &[], &bad)).number(), 18);
+    assert_eq!(three.trial(&call(&doubled[..12], &[], &bad)).number(), 7);
+    let mut four = state;
+    four.n = 4;
+    assert_eq!(four.trial(&call(&doubled[..16], &[], &bad)).number(), 18);
 }
 
 /// 01's kinds of a malformed record, one by one.
@@ -535,8 +544,10 @@ fn indices_refuse_in_their_order() {
     assert_eq!(state.winner_indices(&[nan; 20], 0), Err(6));
     assert_eq!(state.winner_indices(&doubled(), 0), Err(18));
     assert_eq!(state.winner_indices(&SQUARE, 4), Err(9));
+    state.n = 4;
+    assert_eq!(state.winner_indices(&doubled()[..16], 0), Err(18));
     state.n = 3;
-    assert_eq!(state.winner_indices(&doubled()[..12], 0), Err(18));
+    assert_eq!(state.winner_indices(&doubled()[..12], 0), Err(7));
     assert_eq!(state.winner_indices(&SQUARE[..12], 0), Err(7));
 }
 

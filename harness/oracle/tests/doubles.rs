@@ -1,18 +1,21 @@
 //! Marks of one position and two pixels: that the oracle's test says of each case
-//! what the case says of itself, and what the originals answer for the smallest
-//! such lists, which document 02's order 6 has refused.
+//! what the case says of itself, what the originals answer for the smallest such
+//! lists, which document 02's order 6 has refused, and which answers its order 7
+//! changed.
 
+use oracle::book::{Best, Call, Options, State, trial_record};
 use oracle::cases::Random;
 use oracle::double_cases::{
-    Doubled, FOUR, SIX, all_but_one, nearly_equal, pairs, random, the_most, threes,
+    Doubled, FOUR, SIX, all_but_one, apart, flat, nearly_equal, pairs, random, the_most, threes,
 };
-use oracle::entries::single;
+use oracle::entries::{self, single};
 use oracle::family_cases::{Cases, clash, identity, settle};
 use oracle::form_cases::PLAIN;
 use oracle::{
     Family, Form, FormMark, Mark, Numbers, Point, Point3, RansacOptions, Sheet, Trial, dlt_rows,
-    dlt_rows_3d, normalize_points_2d, normalize_points_3d, points_are_collinear, ransac_fit,
+    dlt_rows_3d, normalize_points_2d, normalize_points_3d, points_are_collinear, ransac_fit, whole,
 };
+use std::collections::BTreeSet;
 
 fn single_flat<F: Family>(marks: &[f64]) -> Result<(), u32> {
     single(F::Mark::chunks(marks).0)
@@ -123,15 +126,57 @@ fn normalising_forms() {
     assert_eq!(points, [[x, 0.0, 0.0], [x, 0.0, 0.0], [far, 0.0, 0.0]]);
 }
 
-/// The fewest marks that have rows.
+/// The fewest marks that have rows. Of shorter lists the originals say that they
+/// are, and that is told before 18.
 #[test]
 fn rows() {
     assert_eq!(single(&FOUR), Err(18));
     assert_eq!(dlt_rows(&FOUR).expect("rows").len(), 72);
-    assert!(dlt_rows(&FOUR[..3]).is_err());
+    assert_eq!(entries::rows(&flat(&FOUR), &mut [0.0; 72]), Err(18));
+    for n in 2..4 {
+        let error = dlt_rows(&FOUR[..n]).expect_err("few").to_string();
+        assert!(error.contains("InsufficientData { need: 4"), "{error}");
+        let told = entries::rows(&flat(&FOUR[..n]), &mut [0.0; 72]);
+        assert_eq!(told, Err(7));
+    }
     assert_eq!(single(&SIX), Err(18));
     assert_eq!(dlt_rows_3d(&SIX).expect("rows").len(), 144);
-    assert!(dlt_rows_3d(&SIX[..5]).is_err());
+    assert_eq!(entries::rows_form(&flat(&SIX), &mut [0.0; 144]), Err(18));
+    for n in 2..6 {
+        let error = dlt_rows_3d(&SIX[..n]).expect_err("few").to_string();
+        assert!(error.contains("InsufficientData { need: 6"), "{error}");
+        let told = entries::rows_form(&flat(&SIX[..n]), &mut [0.0; 144]);
+        assert_eq!(told, Err(7));
+    }
+}
+
+/// Marks all at one position: the originals see the line, or that there is no
+/// spread, and 18 is told before.
+#[test]
+fn rows_at_one_position() {
+    for n in 4..=9 {
+        let sheet: Vec<Mark> = apart::<Sheet>(n)
+            .iter()
+            .map(|&[.., u, v]| [3.0, 3.0, u, v])
+            .collect();
+        let error = dlt_rows(&sheet).expect_err("a line").to_string();
+        assert!(error.contains("source points are collinear"), "{error}");
+        let told = entries::rows(&flat(&sheet), &mut vec![0.0; 18 * n]);
+        assert_eq!(told, Err(18));
+        let one = flat(&vec![sheet[0]; n]);
+        assert_eq!(entries::rows(&one, &mut vec![0.0; 18 * n]), Err(13));
+    }
+    for n in 6..=9 {
+        let form: Vec<FormMark> = apart::<Form>(n)
+            .iter()
+            .map(|&[.., u, v]| [3.0, 3.0, 3.0, u, v])
+            .collect();
+        assert!(dlt_rows_3d(&form).is_err());
+        let told = entries::rows_form(&flat(&form), &mut vec![0.0; 24 * n]);
+        assert_eq!(told, Err(18));
+        let one = flat(&vec![form[0]; n]);
+        assert_eq!(entries::rows_form(&one, &mut vec![0.0; 24 * n]), Err(12));
+    }
 }
 
 /// The fewest marks that are tried: both of one position count, though one is off
@@ -145,13 +190,24 @@ fn runs() {
     let run = |marks| ransac_fit(Sheet, marks, &options, 1.0, &trial).winner;
     let winner = run(&FOUR).expect("a winner");
     assert_eq!((winner.inliers, winner.rms), (vec![0, 1, 2, 3], 0.5));
-    assert!(run(&FOUR[..3]).is_none());
+    assert!(run(&FOUR[..2]).is_none() && run(&FOUR[..3]).is_none());
+    let opened = |n: usize| opening::<Sheet>(&flat(&FOUR[..n]));
+    assert_eq!([2, 3, 4].map(opened), [7, 7, 18]);
     let trial = [fitted(identity::<Form>())];
     let run = |marks| ransac_fit(PLAIN, marks, &options, 1.0, &trial).winner;
     let winner = run(&SIX).expect("a winner");
     assert_eq!(winner.inliers, [0, 1, 2, 3, 4, 5]);
     assert_eq!(winner.rms, (1.0f64 / 6.0).sqrt());
-    assert!(run(&SIX[..5]).is_none());
+    assert!((2..6).all(|n| run(&SIX[..n]).is_none()));
+    let opened = |n: usize| opening::<Form>(&flat(&SIX[..n]));
+    assert_eq!([2, 3, 4, 5, 6].map(opened), [7, 7, 7, 7, 18]);
+}
+
+/// What an opening tells of these marks, all else being in order.
+fn opening<F: Cases>(marks: &[f64]) -> u32 {
+    let case = F::example();
+    let stops = vec![9; marks.len() / F::WIDTH + 1];
+    number(State::open(case.family, case.options, marks, &stops))
 }
 
 fn fitted<M>(model: M) -> Trial<M> {
@@ -159,4 +215,189 @@ fn fitted<M>(model: M) -> Trial<M> {
         fit: Some(model),
         refit: None,
     }
+}
+
+// Which answers document 02's order 7 changed.
+
+/// What all entries that ask how many marks there are told before it of a list of
+/// whole marks: 6, 18, 7, or of that nothing.
+fn before(fewest: usize, marks: &[f64], width: usize) -> Option<u32> {
+    let list: Vec<&[f64]> = marks.chunks_exact(width).collect();
+    if !marks.iter().all(|x| x.abs() <= 1e9) {
+        return Some(6);
+    }
+    for (place, a) in list.iter().enumerate() {
+        for b in &list[..place] {
+            let (at, pixel) = a.split_at(width - 2);
+            let (other_at, other_pixel) = b.split_at(width - 2);
+            if at == other_at && pixel != other_pixel {
+                return Some(18);
+            }
+        }
+    }
+    (list.len() < fewest).then_some(7)
+}
+
+/// What a family's rows tell, and its whole run, which forms don't have: the
+/// refusal or 0.
+trait Asking: Cases {
+    fn rows(marks: &[f64]) -> u32;
+    fn run(_options: &Options, _marks: &[f64]) -> Option<u32> {
+        None
+    }
+}
+
+fn number<T>(answer: Result<T, u32>) -> u32 {
+    answer.err().unwrap_or(0)
+}
+
+impl Asking for Sheet {
+    fn rows(marks: &[f64]) -> u32 {
+        number(entries::rows(marks, &mut [0.0; 108]))
+    }
+
+    fn run(options: &Options, marks: &[f64]) -> Option<u32> {
+        let mut case = Self::example();
+        (case.options, case.marks) = (*options, marks.to_vec());
+        case.stops = vec![9; marks.len() / 4 + 1];
+        let bytes = case.bytes();
+        Some(whole::run(&bytes.inputs(), &mut [0; 88], &mut [0; 24]))
+    }
+}
+
+impl Asking for Form {
+    fn rows(marks: &[f64]) -> u32 {
+        number(entries::rows_form(marks, &mut [0.0; 144]))
+    }
+}
+
+/// A state of a run over n marks with a winner.
+fn won<F: Cases>(options: Options, n: usize) -> State<F> {
+    let case = F::example();
+    let opened = State::open(case.family, options, &case.marks, &case.stops);
+    let mut state = opened.expect("an opening");
+    state.n = n as u64;
+    state.book.winner = Some(Best {
+        count: 1,
+        number: 1,
+        rms: 0.5,
+        model: identity::<F>(),
+    });
+    state
+}
+
+/// Each entry that asks how many marks there are, by name: the number of a fault in
+/// front of the marks, 0 for none, and what it tells.
+fn all_told<F: Asking>(marks: &[f64]) -> Vec<(&'static str, u32, u32)> {
+    let n = marks.len() / F::WIDTH;
+    let stops = vec![9; n + 1];
+    let case = F::example();
+    let good = Options {
+        min_inliers: 0,
+        max_iters: 9,
+        ..case.options
+    };
+    let mut list = vec![("rows", 0, F::rows(marks))];
+    let faulty = [
+        (0, good),
+        (
+            2,
+            Options {
+                thresh: 0.0,
+                ..good
+            },
+        ),
+        (
+            3,
+            Options {
+                confidence: 1.0,
+                ..good
+            },
+        ),
+        (
+            4,
+            Options {
+                max_iters: 0,
+                ..good
+            },
+        ),
+        (16, Options { ratio: 0.0, ..good }),
+    ];
+    for (front, options) in faulty {
+        let opened = State::open(case.family, options, marks, &stops);
+        list.push(("opening", front, number(opened)));
+        if let Some(told) = F::run(&options, marks) {
+            list.push(("whole run", front, told));
+        }
+    }
+    let records: [&[u8]; 2] = [&good.record(), &case.family.record()];
+    let opened = State::<F>::open_records(records, marks, &stops);
+    list.push(("opening from records", 0, number(opened)));
+    let cut = [&records[0][1..], records[1]];
+    let opened = State::<F>::open_records(cut, marks, &stops);
+    list.push(("opening from records", 1, number(opened)));
+    let state = won::<F>(good, n);
+    let record = trial_record(&fitted(identity::<F>()));
+    let call = Call {
+        record: &record,
+        marks,
+        stops: &stops,
+    };
+    let (mut first, mut ended, mut other, mut none) = (state, state, state, state);
+    (ended.book.bound, other.n, none.book.winner) = (0, n as u64 + 1, None);
+    list.push(("trial", 0, first.trial(&call).number()));
+    list.push(("trial", 10, ended.trial(&call).number()));
+    list.push(("trial", 5, other.trial(&call).number()));
+    list.push(("indices", 0, number(state.winner_indices(marks, n))));
+    list.push(("indices", 11, number(none.winner_indices(marks, n))));
+    list
+}
+
+/// Every length to 6, with a clash at every two places and without, and with a bad
+/// number at every place: an answer differs from before where the list is short and
+/// clashes and nothing in front is wrong, and nowhere else.
+fn exactly_these_change<F: Asking>(changing: &[usize]) {
+    let mut changed = BTreeSet::new();
+    let lists = (0..=6).flat_map(|n| {
+        let alone = (flat(&apart::<F>(n)), false);
+        [alone].into_iter().chain(pairs::<F>(&[n]))
+    });
+    for (marks, clash) in lists {
+        let n = marks.len() / F::WIDTH;
+        let bads = (0..marks.len()).map(Some).chain([None]);
+        for bad in bads {
+            let mut marks = marks.clone();
+            if let Some(place) = bad {
+                marks[place] = [f64::NAN, f64::NEG_INFINITY, 2e9][place % 3];
+            }
+            for (name, front, now) in all_told::<F>(&marks) {
+                let old = match front {
+                    0 => before(F::FEWEST, &marks, F::WIDTH).unwrap_or(0),
+                    _ => front,
+                };
+                let changes = front == 0 && bad.is_none() && clash && n < F::FEWEST;
+                let expected = if changes { (18, 7) } else { (old, old) };
+                assert_eq!((old, now), expected, "{name} behind {front}: {marks:?}");
+                if old != now {
+                    changed.insert((n, name));
+                }
+            }
+        }
+    }
+    // At every entry, and at these lengths.
+    let names: BTreeSet<&str> = all_told::<F>(&[]).iter().map(|told| told.0).collect();
+    let each = changing
+        .iter()
+        .flat_map(|&n| names.iter().map(move |&name| (n, name)));
+    assert_eq!(changed, each.collect());
+}
+
+#[test]
+fn of_sheets_two_and_three_change() {
+    exactly_these_change::<Sheet>(&[2, 3]);
+}
+
+#[test]
+fn of_forms_two_to_five_change() {
+    exactly_these_change::<Form>(&[2, 3, 4, 5]);
 }

@@ -202,10 +202,14 @@ fn rows_refused_in_order() {
     assert_eq!(no_rows(&both(&[[1.0, 1.0]; 4]), 72), 13);
     assert_eq!(no_rows(&pair(&[[1.0, 1.0]; 4], &SQUARE), 72), 18);
     assert_eq!(no_rows(&pair(&SQUARE, &[[1.0, 1.0]; 4]), 72), 14);
-    // 18 before 7, 13, 14 and 9.
+    // 7 before 18 too, with two clashing marks and three; 18 before 13, 14 and 9.
     let twice = [LINE[0], LINE[1], LINE[2], LINE[0]];
     assert_eq!(no_rows(&pair(&twice[1..], &SQUARE[1..]), 0), 7);
-    assert_eq!(no_rows(&pair(&[LINE[0]; 3], &SQUARE[1..]), 0), 18);
+    assert_eq!(no_rows(&pair(&[LINE[0]; 2], &SQUARE[..2]), 36), 7);
+    assert_eq!(no_rows(&pair(&[LINE[0]; 3], &SQUARE[1..]), 0), 7);
+    assert_eq!(no_rows(&pair(&[LINE[0]; 3], &SQUARE[1..]), 54), 7);
+    assert_eq!(no_rows(&pair(&[LINE[0]; 4], &SQUARE), 0), 18);
+    assert_eq!(no_rows(&pair(&[LINE[0]; 4], &LINE), 72), 18);
     assert_eq!(no_rows(&pair(&twice, &SQUARE), 0), 18);
     assert_eq!(no_rows(&pair(&twice, &LINE), 0), 18);
     let square_twice = [SQUARE[0], SQUARE[1], SQUARE[2], SQUARE[0]];

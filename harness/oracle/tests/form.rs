@@ -106,13 +106,14 @@ fn rows_into_a_list() {
         assert_eq!(lent, vec![BEFORE; room]);
         refusal
     };
-    // 5, 6, 18, 7, 12, 9.
+    // 5, 6, 7, 18, 12, 9.
     for (marks, number) in refused_traps() {
         assert_eq!(refused(&marks, 0), number);
         assert_eq!(refused(&marks, 300), number);
     }
     assert_eq!(refused(&doubled(), 144), 18);
-    assert_eq!(refused(&doubled()[..25], 0), 18);
+    assert_eq!(refused(&doubled()[..25], 0), 7);
+    assert_eq!(refused(&doubled()[..10], 48), 7);
     assert_eq!(refused(&[], 0), 7);
     assert_eq!(refused(&cube(5), 0), 7);
     assert_eq!(refused(&[1.0; 25], 200), 7);
@@ -414,7 +415,7 @@ fn trials_by_other_cameras() {
     }
 }
 
-/// 1 of the options, 1 of the camera, 2, 3, 4, 16, 5, 6, 18, 7, 8, 17.
+/// 1 of the options, 1 of the camera, 2, 3, 4, 16, 5, 6, 7, 18, 8, 17.
 #[test]
 fn openings_refuse_in_their_order() {
     let good = options(2.0, 4);
@@ -432,14 +433,15 @@ fn openings_refuse_in_their_order() {
     // At one x and y, and not at one z.
     let mut raised = doubled;
     raised[7] = 2.0;
-    let cases: [Opening; 15] = [
+    let cases: [Opening; 16] = [
         (by_options(nan, nan, 0, nan), &MARKS[..7], &[], bad, 2),
         (by_options(1.0, nan, 0, nan), &MARKS[..7], &[], bad, 3),
         (by_options(1.0, 0.5, 0, nan), &MARKS[..7], &[], bad, 4),
         (by_options(1.0, 0.5, 1, nan), &MARKS[..7], &[], bad, 16),
         (good, &[nan; 7], &[], bad, 5),
         (good, &[nan; 25], &[], bad, 6),
-        (good, &doubled[..25], &[], bad, 18),
+        (good, &doubled[..10], &[], bad, 7),
+        (good, &doubled[..25], &[], bad, 7),
         (good, &doubled, &STOPS[..6], bad, 18),
         (good, &doubled, &STOPS, bad, 18),
         (good, &raised, &STOPS, PLAIN, 0),
@@ -481,7 +483,7 @@ fn how_many_marks() {
     }
 }
 
-/// 10, 5, 6, 18, 7, 8, 1, and for the indices 11, 5, 6, 18, 7, 9.
+/// 10, 5, 6, 7, 18, 8, 1, and for the indices 11, 5, 6, 7, 18, 9.
 #[test]
 fn calls_refuse_in_their_order() {
     let state = open(PLAIN, options(2.0, 4));
@@ -506,7 +508,7 @@ fn calls_refuse_in_their_order() {
     assert_eq!(refused(state, &doubled(), &[], &bad), 18);
     let mut five = state;
     five.n = 5;
-    assert_eq!(refused(five, &doubled()[..25], &[], &bad), 18);
+    assert_eq!(refused(five, &doubled()[..25], &[], &bad), 7);
     assert_eq!(refused(five, &MARKS[..25], &[], &bad), 7);
     assert_eq!(refused(state, &MARKS, &STOPS[..6], &bad), 8);
     assert_eq!(refused(state, &MARKS, &STOPS, &bad), 1);
@@ -526,6 +528,7 @@ fn calls_refuse_in_their_order() {
     assert_eq!(won.winner_indices(&MARKS, 6), Ok(vec![0, 1, 2, 3, 4]));
     won.n = 5;
     assert_eq!(won.winner_indices(&MARKS[..25], 0), Err(7));
+    assert_eq!(won.winner_indices(&doubled()[..25], 0), Err(7));
 }
 
 #[test]
