@@ -165,7 +165,7 @@ fn damaged_folders() {
     println!("pickmarks, damaged: {:?}", lines.0);
     if count >= LONG {
         lines.met(&["winner", "no winner"]);
-        for number in [1, 2, 3, 4, 16, 5, 6, 18, 7, 8] {
+        for number in [1, 2, 3, 4, 16, 5, 6, 7, 18, 8] {
             lines.met(&[&format!("refused {number}")]);
         }
     }
@@ -268,12 +268,42 @@ fn a_mark_at_two_pixels() {
         doubled.marks[0] = f64::NAN;
         assert_eq!(compare(&folder, &all(doubled.bytes())), "refused 6\n");
     }
+    short_folders(&folder);
     let most = pairs::<Sheet>(&[2000]);
     for (marks, clash) in most.into_iter().step_by(5) {
         case.marks = marks;
         case.stops = vec![9; 2001];
         let text = compare(&folder, &all(case.bytes()));
         assert_eq!(text == "refused 18\n", clash);
+    }
+}
+
+/// Two and three marks of which two clash are short, before they are doubled, and
+/// with four they are doubled; a bad number is told before both. The files stay as
+/// they were.
+fn short_folders(folder: &Folder) {
+    let mut case = example::sheet();
+    for (n, number) in [(2, 7), (3, 7), (4, 18)] {
+        for (marks, clash) in pairs::<Sheet>(&[n]) {
+            if !clash {
+                continue;
+            }
+            case.marks = marks;
+            for bad in [None, Some(0), Some(4 * n - 1)] {
+                let mut case = case.clone();
+                if let Some(place) = bad {
+                    case.marks[place] = [f64::NAN, f64::INFINITY, -2e9][place % 3];
+                }
+                let number = if bad.is_some() { 6 } else { number };
+                for stops in [0, n + 1] {
+                    case.stops = vec![9; stops];
+                    let files = all(case.bytes());
+                    assert_eq!(compare(folder, &files), format!("refused {number}\n"));
+                    let stored = FILES.map(|name| fs::read(folder.0.join(name)).ok());
+                    assert!(stored == files);
+                }
+            }
+        }
     }
 }
 
