@@ -31,18 +31,20 @@ module _ (limit : Float) where
   behind (suc k) [] h = h
   behind (suc k) (x ∷ l) h = behind k l (and_parts (within limit x) (every (within limit) l) h).1
 
-module _ {E M K : Type 0} (f : Family E M K) (l : List Float) (m : K) (alone : f.marks_of l ≡ m ∷ []) (numbers : f.mark_numbers m ≡ l) where
-  no_double : all_within farthest l ≡ true → (double f l).fails ≡ false
+module _ {E M K : Type 0} (f : Family E M K) (l : List Float) (m : K) (alone : f.marks_of l ≡ m ∷ []) where
+  pub no_double : all_within farthest (f.mark_numbers m) ≡ true → (double f l).fails ≡ false
   unfolding double doubled clash pixel
-  no_double h = rw (alone, numbers, equal_themselves farthest (drop (f.width - 2) l) (behind farthest (f.width - 2) l h)) (none (pointwise eq (position f m) (position f m)))
+  no_double h =
+      let numbers = f.mark_numbers m in
+      rw (alone, equal_themselves farthest (drop (f.width - 2) numbers) (behind farthest (f.width - 2) numbers h)) (none (pointwise eq (position f m) (position f m)))
     where
       none : (b : Bool) → (b && false || false || false) ≡ false
       none true = refl
       none false = refl
 
-  pub one_mark : first_failed (marks_tests f l) ≡ first_failed (shape f l ∷ point l ∷ [])
+  pub one_mark : f.mark_numbers m ≡ l → first_failed (marks_tests f l) ≡ first_failed (shape f l ∷ point l ∷ [])
   unfolding marks_tests point double first_failed
-  one_mark = go (all_within farthest l) (shape f l).fails (λ h. no_double h)
+  one_mark numbers = go (all_within farthest l) (shape f l).fails (λ h. no_double (rw numbers h))
     where
       go : (w s : Bool) → (w ≡ true → (double f l).fails ≡ false)
           → cond s (shape f l).number (cond (not w) POINT (cond (double f l).fails DOUBLE 0)) ≡ cond s (shape f l).number (cond (not w) POINT 0)

@@ -55,7 +55,7 @@ every_at t [] d k h g = absurd (omega (arith, g))
 every_at t (a ∷ l) d zero h g = (and_parts (t a) (every t l) h).0
 every_at t (a ∷ l) d (suc k) h g = every_at t l d k (and_parts (t a) (every t l) h).1 (omega (arith, g))
 
-front_within : (k : ℕ) (l : List Float) → all_within farthest l ≡ true → all_within farthest (take k l) ≡ true
+pub front_within : (k : ℕ) (l : List Float) → all_within farthest l ≡ true → all_within farthest (take k l) ≡ true
 unfolding all_within
 front_within zero l h = refl
 front_within (suc k) [] h = refl

@@ -1,0 +1,116 @@
+-- Document 02, order 7: 'Short comes first wherever both are tested, doubled second, on one line third. The old answers that change are these: two or three sheet
+-- marks with a clashing pair go from 18 to 7, and two to five form marks likewise. Four or more marks all at one sheet position with unequal pixels still give
+-- 18 and not 13. 7 now precedes 18 in each order.' The orders as they were stand here alone. `proofs/Shorter.antt` proves `Order7`.
+use Rattle.std.specs.Prelude.{◌≡◌, Bool, true, false, ◌&&◌, List, [], ◌∷◌, ◌++◌, ℕ, ◌<◌, ◌≤◌, ◌*◌, length, Float}
+use Rattle.rule.specs.Refusal.{FEW, ENDED, NONE, DOUBLE}
+use Rattle.rule.specs.Order.{Test, first_failed, decided, room}
+use Rattle.estimator.specs.Family.{Family}
+use Rattle.estimator.specs.Marks.{shape, point, few, double, of_run, entries}
+use Rattle.sheet.specs.Marks.{marks_of}
+use Rattle.sheet.specs.Sheets.{sheet}
+use Rattle.form.specs.Marks.{marks_of as form_marks_of, points as form_points}
+use Rattle.form.specs.Forms.{form}
+use Rattle.linalg_3d.specs.Normalize.{spread}
+use Rattle.homography.specs.Rows.{sheet_line, pixel_line, spreads, rows_tests}
+use Rattle.dlt.specs.Rows.{rows_tests as form_rows_tests}
+use Rattle.book.specs.Book.{Held, none, held}
+use Rattle.book.specs.Calls.{is_closed, number_in}
+use Rattle.records.specs.Options.{options_record, options_of, options_tests}
+use Rattle.records.specs.Trial.{trial_record}
+use Rattle.records.specs.Marks.{numbers_in}
+use Rattle.records.specs.declared.options.RansacOptions.{RansacOptions}
+use Rattle.judge.specs.Judging.{Call, call_tests}
+use Rattle.pick.specs.Run.{Run}
+use Rattle.pick.specs.Opening.{opening_tests}
+use Rattle.pick.specs.Trial.{trial_answer}
+use Rattle.pick.specs.Indices.{marks_order, indices_answer}
+use Rattle.form_records.specs.Camera.{camera_record, camera_in, records_tests}
+use Rattle.salghemu.specs.Whole.{Files, mark_bytes, stop_bytes, trial_bytes, run_tests}
+
+module _ {E M K : Type 0} (f : Family E M K) (ahead : List Test) (marks : List Float) (after : List Test) where
+  -- ---- an order with 6, 7 and 18 in it, by the tests ahead of these and after them
+
+  unfoldable pub now : List Test
+  now = ahead ++ (point marks ∷ few f marks ∷ double f marks ∷ after)
+
+  -- as it was: 6, 18, 7
+  unfoldable pub before : List Test
+  before = ahead ++ (point marks ∷ double f marks ∷ few f marks ∷ after)
+
+  -- ---- what differs
+
+  -- the tests in front of both (where their `first_failed` is 0, none of them failed)
+  unfoldable pub front : List Test
+  front = ahead ++ (point marks ∷ [])
+
+  unfoldable pub short_and_doubled : Bool
+  short_and_doubled = (few f marks).fails && (double f marks).fails
+
+  pub record Changed (order : List Test) : Type 0 where
+    -- '7 now precedes 18'
+    pub is_now : order ≡ now
+    -- A call is answered as before where a test in front of both turns it down,
+    pub in_front : (first_failed front ≡ 0 → ⊥) → first_failed order ≡ first_failed before
+    -- and where its marks aren't both short and doubled: so without a double nothing differs.
+    pub alike : short_and_doubled ≡ false → first_failed order ≡ first_failed before
+    -- All other calls went from 18 to 7; and their marks are two or more, and fewer than the family's least: two or three of a sheet, two to five of a form.
+    pub turned : first_failed front ≡ 0 → short_and_doubled ≡ true
+        → (first_failed before ≡ DOUBLE) × (first_failed order ≡ FEW) × (2 ≤ length (f.marks_of marks)) × (length (f.marks_of marks) < f.least)
+    -- Marks enough that are doubled 'still give 18', whatever else is asked of them after.
+    pub still : first_failed front ≡ 0 → (few f marks).fails ≡ false → (double f marks).fails ≡ true → first_failed order ≡ DOUBLE
+
+-- ---- every entry that has both
+
+abbrev pub is_none : {M : Type 0} → Held M → Bool
+is_none none = true
+is_none (held w) = false
+
+module _ {E M K : Type 0} (f : Family E M K) where
+  -- a trial's order, with 10 in front, and that of the indices, with 11
+  unfoldable pub ended : Run E M → Test
+  ended r = record { fails = is_closed r.book; number = ENDED }
+
+  unfoldable pub unheld : Run E M → Test
+  unheld r = record { fails = is_none r.book.winner; number = NONE }
+
+  unfoldable pub trial_order : Run E M → Call → List Test
+  trial_order r c = ended r ∷ call_tests f r.n c
+
+  unfoldable pub indices_order : Run E M → List Float → (places : ℕ) → List Test
+  indices_order r marks places = unheld r ∷ marks_order f r.n marks places
+
+  pub record OfFamily : Type 0 where
+    -- the opening, from the options type and from a record
+    pub opening : (e : E) (o : RansacOptions) (marks : List Float) (stops : List ℕ)
+        → Changed f (options_tests o ++ (shape f marks ∷ [])) marks (entries f marks stops ∷ f.tests e) (opening_tests f e o marks stops)
+    pub record_opening : (e : E) (bytes : List ℕ) (marks : List Float) (stops : List ℕ)
+        → Changed f (options_record bytes ∷ (options_tests (options_of bytes) ++ (shape f marks ∷ []))) marks (entries f marks stops ∷ f.tests e)
+        (options_record bytes ∷ opening_tests f e (options_of bytes) marks stops)
+    -- a trial, which answers by its order
+    pub trial : (r : Run E M) (c : Call)
+        → Changed f (ended r ∷ of_run f r.n c.marks ∷ shape f c.marks ∷ []) c.marks (entries f c.marks c.stops ∷ trial_record f.size c.bytes ∷ []) (trial_order r c)
+    pub trial_answers : (r : Run E M) (c : Call) → number_in (trial_answer f r c).outcome ≡ first_failed (trial_order r c)
+    -- the winner's indices, which are given where no test of theirs fails
+    pub indices : (r : Run E M) (marks : List Float) (places : ℕ)
+        → Changed f (unheld r ∷ of_run f r.n marks ∷ shape f marks ∷ []) marks (room (length (f.marks_of marks)) places ∷ []) (indices_order r marks places)
+    pub indices_answers : (r : Run E M) (marks : List Float) (entry : List ℕ)
+        → (count : ℕ) × (indices_answer f r marks entry ≡ decided (first_failed (indices_order r marks (length entry))) count)
+
+pub record Order7 : Type 0 where
+  pub sheets : OfFamily sheet
+  pub forms : OfFamily form
+  -- a form's opening from two records
+  pub form_opening : (options camera : List ℕ) (marks : List Float) (stops : List ℕ)
+      → Changed form (options_record options ∷ camera_record camera ∷ (options_tests (options_of options) ++ (shape form marks ∷ []))) marks
+      (entries form marks stops ∷ form.tests (camera_in camera)) (records_tests options camera marks stops)
+  -- the whole run
+  pub whole_run : (f : Files) (winner indices : ℕ)
+      → let marks = numbers_in 4 f.marks in
+      let n = length (marks_of marks) in
+      Changed sheet (options_record f.options ∷ (options_tests (options_of f.options) ++ (mark_bytes f.marks ∷ []))) marks
+      (stop_bytes n (length f.stops) ∷ trial_bytes (length f.trials) ∷ room 88 winner ∷ room (4 * n) indices ∷ []) (run_tests f winner indices)
+  -- the rows, of a sheet and of a form
+  pub rows : (marks : List Float) (places : ℕ)
+      → Changed sheet (shape sheet marks ∷ []) marks (sheet_line marks ∷ pixel_line marks ∷ spreads marks ∷ room (18 * length (marks_of marks)) places ∷ []) (rows_tests marks places)
+  pub form_rows : (marks : List Float) (places : ℕ)
+      → Changed form (shape form marks ∷ []) marks (spread (form_points marks) ∷ room (24 * length (form_marks_of marks)) places ∷ []) (form_rows_tests marks places)
