@@ -1,7 +1,7 @@
 //! The tests of a run's marks, by an opening that is accepted: the shape, the range
-//! of every number, that no two marks have one position and two pixels, and that
-//! they are enough. Beside plain Rust doing the same, which sorts places by std's
-//! unstable sort and looks at neighbours.
+//! of every number, that the marks are enough, and that no two have one position and
+//! two pixels. Beside plain Rust doing the same, which sorts places by std's unstable
+//! sort and looks at neighbours.
 //!
 //! The opening writes a state besides, of some thirty words. The Rust's list of
 //! places is allocated before the time runs.
@@ -25,6 +25,9 @@ fn plain<F: Timed>(marks: &[f64], places: &mut Vec<u16>) -> u32 {
     if !marks.iter().all(|x| x.abs() <= 1e9) {
         return 6;
     }
+    if list.len() < F::FEWEST {
+        return 7;
+    }
     let sides = |place: u16| list[place as usize].as_ref().split_at(F::WIDTH - 2);
     let by_position = |p: &u16, q: &u16| sides(*p).0.partial_cmp(sides(*q).0);
     places.clear();
@@ -34,10 +37,7 @@ fn plain<F: Timed>(marks: &[f64], places: &mut Vec<u16>) -> u32 {
         let [(at, pixel), (other, other_pixel)] = [sides(two[0]), sides(two[1])];
         at == other && pixel != other_pixel
     };
-    if places.windows(2).any(clashes) {
-        return 18;
-    }
-    7 * u32::from(list.len() < F::FEWEST)
+    18 * u32::from(places.windows(2).any(clashes))
 }
 
 /// In which order positions stand.

@@ -30,7 +30,6 @@ for_each_family!(
     one_position,
     sets_of_faults,
     not_the_runs_number,
-    bad_numbers,
     too_many,
 );
 
@@ -565,19 +564,6 @@ fn not_the_runs_number<F: Entries>() {
                 let (state, stops) = (state::<F>(other, &GOOD), vec![9; n + 1]);
                 assert_eq!(indices(&state, &marks, n), 5);
                 assert_eq!(trial(state, &marks, &stops, &GOOD), 5);
-            }
-        }
-    }
-}
-
-/// A bad number anywhere is 6, in a mark that clashes too.
-fn bad_numbers<F: Entries>() {
-    for (marks, _) in pairs::<F>(&[F::FEWEST]) {
-        for place in 0..marks.len() {
-            let mut marks = marks.clone();
-            marks[place] = [f64::NAN, f64::INFINITY, -2e9][place % 3];
-            for Entry { name, call, .. } in all::<F>(&marks, &GOOD) {
-                assert_eq!(call(), 6, "{name} of {marks:?}");
             }
         }
     }
