@@ -40,10 +40,30 @@ fn plain<F: Timed>(marks: &[f64], places: &mut Vec<u16>) -> u32 {
     18 * u32::from(places.windows(2).any(clashes))
 }
 
-/// In which order positions stand.
-const ORDERS: [&str; 5] = ["no order", "ascending", "descending", "all equal", "a grid"];
+/// In which order positions stand. Ascending is by x and then by y, as the Rust here
+/// compares. Row by row, on a grid with no negative number, they ascend by y and then
+/// by x, and so by the proved ranks; and at the end of such rows two are exchanged,
+/// so that the look for ranks that descend finds none before the last two.
+const ORDERS: [&str; 7] = [
+    "no order",
+    "ascending",
+    "descending",
+    "all equal",
+    "a grid",
+    "row by row",
+    "last two fall",
+];
 
-/// n marks; a grid of 45 by 45 in no order.
+/// Marks on a grid of 45 by 45: the one at place i at the node of its number.
+fn on_grid<F: Timed>(list: &mut [F::Mark], node: impl Fn(usize) -> usize) {
+    for (i, mark) in list.iter_mut().enumerate() {
+        let at = &mut mark.as_mut()[..F::WIDTH - 2];
+        at.fill(0.0);
+        (at[0], at[1]) = ((node(i) % 45) as f64, (node(i) / 45) as f64);
+    }
+}
+
+/// n marks; a grid in no order.
 fn marks<F: Timed>(n: usize, order: &str) -> Vec<f64> {
     let random = &mut Random::new(74);
     let one = |random: &mut Random| F::Mark::from_fn(|_| 1000.0 * random.unit());
@@ -53,13 +73,11 @@ fn marks<F: Timed>(n: usize, order: &str) -> Vec<f64> {
         "ascending" => list.sort_by(up),
         "descending" => list.sort_by(|a, b| up(b, a)),
         "all equal" => list = vec![list[0]; n],
-        "a grid" => {
-            for (i, mark) in list.iter_mut().enumerate() {
-                let place = i * 1103 % (45 * 45);
-                let at = &mut mark.as_mut()[..F::WIDTH - 2];
-                at.fill(0.0);
-                (at[0], at[1]) = ((place % 45) as f64, (place / 45) as f64);
-            }
+        "a grid" => on_grid::<F>(&mut list, |i| i * 1103 % (45 * 45)),
+        "row by row" => on_grid::<F>(&mut list, |i| i),
+        "last two fall" => {
+            on_grid::<F>(&mut list, |i| i);
+            list.swap(n - 2, n - 1);
         }
         _ => {}
     }
@@ -99,7 +117,7 @@ fn row<F: Timed>(n: usize, order: &str) {
     }
     let [p, o] = times.map(median);
     println!(
-        "{n:<6} {order:<11} {:>10.2} {:>9.2} {:>15.1} {:>13.1} {:>12.2}",
+        "{n:<6} {order:<13} {:>10.2} {:>9.2} {:>15.1} {:>13.1} {:>12.2}",
         p / 1e3,
         o / 1e3,
         p / n as f64,
@@ -110,7 +128,9 @@ fn row<F: Timed>(n: usize, order: &str) {
 
 fn rows<F: Timed>(title: &str, counts: &[usize]) {
     println!("the tests of the marks of {title}, by an opening");
-    println!("marks  positions    proved us   Rust us  proved ns/mark  Rust ns/mark  proved/Rust");
+    println!(
+        "marks  positions      proved us   Rust us  proved ns/mark  Rust ns/mark  proved/Rust"
+    );
     for &n in counts {
         for order in ORDERS {
             row::<F>(n, order);
