@@ -99,6 +99,26 @@ fn trial<F: Timed>(case: &Case<F>, outcome: u64, list: &Candidates<F>) -> f64 {
     median(rounds.collect()) / records.len() as f64
 }
 
+/// The same run with its marks listed by y and then by x, a form's by z first.
+fn by_rows<F: Timed>(case: &Case<F>) -> Case<F> {
+    let mut list = case.mark_list().to_vec();
+    let position = |mark: &F::Mark| {
+        let mut position = mark.as_ref()[..F::WIDTH - 2].to_vec();
+        position.reverse();
+        position
+    };
+    list.sort_by(|a, b| position(a).partial_cmp(&position(b)).expect("no NaN"));
+    let marks = list
+        .iter()
+        .flat_map(|mark| mark.as_ref())
+        .copied()
+        .collect();
+    Case {
+        marks,
+        ..case.clone()
+    }
+}
+
 /// Measuring and counting, the Rust's walk, and a trial call, of good and of
 /// poor candidates.
 pub fn run<F: Timed>() {
@@ -141,11 +161,15 @@ pub fn run<F: Timed>() {
     row("the Rust's walk", walks.map(a_mark));
 
     println!();
-    println!("us a trial call, {marks} marks   proved  the Rust's walk");
+    println!("us a trial call, {marks} marks   proved  in rows  the Rust's walk");
     let [held, few] = lists.each_ref();
+    let rows = by_rows(&case);
     for (title, outcome, list, walk) in [("few", 2, few, walks[1]), ("held", 3, held, walks[0])] {
-        let time = trial(&case, outcome, list);
-        println!("{title:<29} {:>8.2} {:>16.2}", time / 1e3, walk / 1e3);
+        let [time, in_rows] = [&case, &rows].map(|case| trial(case, outcome, list) / 1e3);
+        println!(
+            "{title:<29} {time:>8.2} {in_rows:>8.2} {:>16.2}",
+            walk / 1e3
+        );
     }
 }
 
