@@ -67,6 +67,15 @@ impl Tally {
     }
 }
 
+/// Every set of these faults, each in their order.
+pub fn sets(faults: &[u32]) -> impl Iterator<Item = Vec<u32>> {
+    (0..1 << faults.len()).map(|set| {
+        let places = faults.iter().enumerate();
+        let within = places.filter(|(place, _)| set >> place & 1 == 1);
+        within.map(|(_, &number)| number).collect()
+    })
+}
+
 /// Whether each of the counted things came up.
 pub fn all_came(counts: &[usize]) -> bool {
     counts.iter().all(|&count| count > 0)

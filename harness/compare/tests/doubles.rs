@@ -6,7 +6,7 @@
 
 use compare::families::Proved;
 use compare::lists::compare_lent;
-use compare::{for_each_family, is_long, junk_bytes, junk_words};
+use compare::{for_each_family, is_long, junk_bytes, junk_words, sets};
 use oracle::book::{Best, Book, Call, Options, State, trial_record};
 use oracle::cases::Random;
 use oracle::double_cases::{
@@ -296,7 +296,8 @@ fn check<F: Entries>(marks: &[f64], clash: bool) {
 }
 
 /// Where neither is told, none is, but that the marks have no spread or lie on a
-/// line, at the entries that see it.
+/// line, at the entries that see it. Which of these it is, or none, isn't asked
+/// here: the call itself is held to the oracle's answer.
 fn is_told<F: Entries>(entry: &Entry, marks: &[f64], clash: bool) {
     let number = (entry.call)();
     let few = marks.len() / F::WIDTH < F::FEWEST;
@@ -533,10 +534,7 @@ fn faulty<F: Entries>(bad: &dyn Fn(u32) -> bool) -> Vec<f64> {
 /// Every set of faults, at every entry: the first in its order is told. Marks at one
 /// position are on a line too.
 fn sets_of_faults<F: Entries>() {
-    for set in 0..1 << FAULTS.len() {
-        let faults = FAULTS.iter().enumerate();
-        let faults = faults.filter(|(place, _)| set >> place & 1 == 1);
-        let faults: Vec<u32> = faults.map(|(_, &number)| number).collect();
+    for faults in sets(&FAULTS) {
         let bad = |number: u32| faults.contains(&number);
         let setting = Setting {
             ended: bad(10),

@@ -4,7 +4,7 @@
 use compare::families::Proved;
 use compare::folded::Folded;
 use compare::ratios::Ratios;
-use compare::{Tally, all_came, for_each_family, junk_words};
+use compare::{Tally, all_came, for_each_family, junk_words, sets};
 use oracle::book::{Book, Call, MODEL_AT, Options, State, Words, trial_record};
 use oracle::cases::{NANS, Random};
 use oracle::close_cases::close;
@@ -317,10 +317,7 @@ fn order<F: Proved>() -> Vec<u32> {
 /// Every set of faults of an opening: the first in the order is told.
 fn sets_of_faults<F: Proved>() {
     let case = F::example();
-    for set in 0..1 << order::<F>().len() {
-        let faults = order::<F>().into_iter().enumerate();
-        let faults = faults.filter(|(place, _)| set >> place & 1 == 1);
-        let faults: Vec<u32> = faults.map(|(_, number)| number).collect();
+    for faults in sets(&order::<F>()) {
         let bad = |number: u32| faults.contains(&number);
         let instead = |number: u32, usual: f64, wrong: f64| match bad(number) {
             true => wrong,
