@@ -10,7 +10,8 @@ use compare::{for_each_family, is_long, junk_bytes, junk_words, sets};
 use oracle::book::{Best, Book, Call, Options, State, trial_record};
 use oracle::cases::Random;
 use oracle::double_cases::{
-    self, Doubled, FOUR, SIX, all_but_one, apart, flat, nearly_equal, pairs, the_most, threes,
+    self, Doubled, FOUR, SIX, all_but_one, apart, flat, nearly_equal, pairs, spoiled, the_most,
+    threes,
 };
 use oracle::entries::{self, single};
 use oracle::family_cases::{Cases, identity};
@@ -423,8 +424,7 @@ fn short_lists<F: Entries>() {
     for (marks, short) in short::<F>() {
         told_of_short::<F>(&marks, short);
         for place in 0..marks.len() {
-            let mut marks = marks.clone();
-            marks[place] = [f64::NAN, f64::INFINITY, -2e9][place % 3];
+            let marks = spoiled(&marks, place);
             told_of_short::<F>(&marks, Short { bad: true, ..short });
         }
     }

@@ -48,6 +48,23 @@ pub fn flat<M: Numbers>(marks: &[M]) -> Vec<f64> {
     numbers.copied().collect()
 }
 
+/// The list with a number at this place that none may have: one of seven, so that
+/// the same number of the next mark, four or five places on, has another.
+pub fn spoiled(marks: &[f64], place: usize) -> Vec<f64> {
+    let bad = [
+        f64::NAN,
+        f64::INFINITY,
+        -2e9,
+        f64::NEG_INFINITY,
+        2e9,
+        step(1e9, 1),
+        step(-1e9, 1),
+    ];
+    let mut marks = marks.to_vec();
+    marks[place] = bad[place % bad.len()];
+    marks
+}
+
 /// The mark with some of its numbers replaced.
 fn with<M: Numbers>(mark: &M, changes: &[(usize, f64)]) -> M {
     let mut mark = *mark;

@@ -6,7 +6,8 @@
 use oracle::book::{Best, Call, Options, State, trial_record};
 use oracle::cases::Random;
 use oracle::double_cases::{
-    Doubled, FOUR, SIX, all_but_one, apart, flat, nearly_equal, pairs, random, the_most, threes,
+    Doubled, FOUR, SIX, all_but_one, apart, flat, nearly_equal, pairs, random, spoiled, the_most,
+    threes,
 };
 use oracle::entries::{self, single};
 use oracle::family_cases::{Cases, clash, identity, settle};
@@ -366,10 +367,7 @@ fn exactly_these_change<F: Asking>(changing: &[usize]) {
         let n = marks.len() / F::WIDTH;
         let bads = (0..marks.len()).map(Some).chain([None]);
         for bad in bads {
-            let mut marks = marks.clone();
-            if let Some(place) = bad {
-                marks[place] = [f64::NAN, f64::NEG_INFINITY, 2e9][place % 3];
-            }
+            let marks = bad.map_or_else(|| marks.clone(), |place| spoiled(&marks, place));
             for (name, front, now) in all_told::<F>(&marks) {
                 let old = match front {
                     0 => before(F::FEWEST, &marks, F::WIDTH).unwrap_or(0),
