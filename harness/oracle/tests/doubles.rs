@@ -13,10 +13,12 @@ use oracle::entries::{self, single};
 use oracle::family_cases::{Cases, clash, identity, settle};
 use oracle::form_cases::PLAIN;
 use oracle::{
-    Family, Form, FormMark, Mark, Numbers, Point, Point3, RansacOptions, Sheet, Trial, dlt_rows,
-    dlt_rows_3d, normalize_points_2d, normalize_points_3d, points_are_collinear, ransac_fit, whole,
+    Family, Form, FormMark, Mark, Numbers, Point, Point3, RansacOptions, Run, Sheet, Trial,
+    dlt_rows, dlt_rows_3d, normalize_points_2d, normalize_points_3d, points_are_collinear,
+    ransac_fit, whole,
 };
 use std::collections::BTreeSet;
+use std::error::Error;
 
 fn single_flat<F: Family>(marks: &[f64]) -> Result<(), u32> {
     single(F::Mark::chunks(marks).0)
@@ -127,28 +129,28 @@ fn normalising_forms() {
     assert_eq!(points, [[x, 0.0, 0.0], [x, 0.0, 0.0], [far, 0.0, 0.0]]);
 }
 
-/// The fewest marks that have rows. Of shorter lists the originals say that they
-/// are, and that is told before 18.
+/// The fewest marks that have rows, and how many numbers these are. Of shorter lists
+/// the original says that they are, and that is told before 18.
+fn fewest_with_rows<F: Asking, E: Error>(
+    marks: &[F::Mark],
+    numbers: usize,
+    original: impl Fn(&[F::Mark]) -> Result<Vec<f64>, E>,
+) {
+    assert_eq!(single(marks), Err(18));
+    assert_eq!(original(marks).expect("rows").len(), numbers);
+    assert_eq!(F::rows(&flat(marks)), 18);
+    let few = format!("InsufficientData {{ need: {}", marks.len());
+    for n in 2..marks.len() {
+        let error = original(&marks[..n]).expect_err("few").to_string();
+        assert!(error.contains(&few), "{error}");
+        assert_eq!(F::rows(&flat(&marks[..n])), 7);
+    }
+}
+
 #[test]
 fn rows() {
-    assert_eq!(single(&FOUR), Err(18));
-    assert_eq!(dlt_rows(&FOUR).expect("rows").len(), 72);
-    assert_eq!(entries::rows(&flat(&FOUR), &mut [0.0; 72]), Err(18));
-    for n in 2..4 {
-        let error = dlt_rows(&FOUR[..n]).expect_err("few").to_string();
-        assert!(error.contains("InsufficientData { need: 4"), "{error}");
-        let told = entries::rows(&flat(&FOUR[..n]), &mut [0.0; 72]);
-        assert_eq!(told, Err(7));
-    }
-    assert_eq!(single(&SIX), Err(18));
-    assert_eq!(dlt_rows_3d(&SIX).expect("rows").len(), 144);
-    assert_eq!(entries::rows_form(&flat(&SIX), &mut [0.0; 144]), Err(18));
-    for n in 2..6 {
-        let error = dlt_rows_3d(&SIX[..n]).expect_err("few").to_string();
-        assert!(error.contains("InsufficientData { need: 6"), "{error}");
-        let told = entries::rows_form(&flat(&SIX[..n]), &mut [0.0; 144]);
-        assert_eq!(told, Err(7));
-    }
+    fewest_with_rows::<Sheet, _>(&FOUR, 72, dlt_rows);
+    fewest_with_rows::<Form, _>(&SIX, 144, dlt_rows_3d);
 }
 
 /// Marks all at one position: the originals see the line, or that there is no
@@ -180,6 +182,10 @@ fn rows_at_one_position() {
     }
 }
 
+fn tries_nothing<M>(run: &Run<M>) -> bool {
+    run.winner.is_none() && run.read == 0
+}
+
 /// The fewest marks that are tried: both of one position count, though one is off
 /// by a pixel.
 #[test]
@@ -188,18 +194,18 @@ fn runs() {
         .with_max_iters(1)
         .with_min_inliers(1);
     let trial = [fitted(identity::<Sheet>())];
-    let run = |marks| ransac_fit(Sheet, marks, &options, 1.0, &trial).winner;
-    let winner = run(&FOUR).expect("a winner");
+    let run = |marks| ransac_fit(Sheet, marks, &options, 1.0, &trial);
+    let winner = run(&FOUR).winner.expect("a winner");
     assert_eq!((winner.inliers, winner.rms), (vec![0, 1, 2, 3], 0.5));
-    assert!(run(&FOUR[..2]).is_none() && run(&FOUR[..3]).is_none());
+    assert!((2..4).all(|n| tries_nothing(&run(&FOUR[..n]))));
     let opened = |n: usize| opening::<Sheet>(&flat(&FOUR[..n]));
     assert_eq!([2, 3, 4].map(opened), [7, 7, 18]);
     let trial = [fitted(identity::<Form>())];
-    let run = |marks| ransac_fit(PLAIN, marks, &options, 1.0, &trial).winner;
-    let winner = run(&SIX).expect("a winner");
+    let run = |marks| ransac_fit(PLAIN, marks, &options, 1.0, &trial);
+    let winner = run(&SIX).winner.expect("a winner");
     assert_eq!(winner.inliers, [0, 1, 2, 3, 4, 5]);
     assert_eq!(winner.rms, (1.0f64 / 6.0).sqrt());
-    assert!((2..6).all(|n| run(&SIX[..n]).is_none()));
+    assert!((2..6).all(|n| tries_nothing(&run(&SIX[..n]))));
     let opened = |n: usize| opening::<Form>(&flat(&SIX[..n]));
     assert_eq!([2, 3, 4, 5, 6].map(opened), [7, 7, 7, 7, 18]);
 }
