@@ -1,5 +1,5 @@
 -- Document 02, order 3: 'A 32-byte record, or the maker, has ratio 1 and gives the old bits.' What the calls and the whole run come to without a ratio, by 01's
--- own tests (18 of order 6 with them, where order 7 has it: it knows no ratio either) and distance, and that it is what they come to with ratio 1.
+-- own tests (and 18 of order 6, in order 7's place, which knows no ratio either) and distance, and that it is what they come to with ratio 1.
 -- `proofs/Old.antt` proves `OldBits`.
 use Rattle.std.specs.Prelude.{◌≡◌, not, List, [], ◌∷◌, ◌++◌, map, ℕ, length, Float}
 use Rattle.rule.specs.Refusal.{RECORD}

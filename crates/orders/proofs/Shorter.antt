@@ -1,18 +1,20 @@
 -- The proof of `Order7`: two tests that change places answer otherwise only where both fail and none in front of them does. Assumes nothing.
 use mathlib.Core.Path.{◌≡◌, refl, sym, ap, ◌∙◌}
-use mathlib.Core.Bool.{Bool, true, false, not, ◌&&◌, cond}
-use mathlib.Core.List.{List, [], ◌∷◌}
+use mathlib.Core.Bool.{Bool, true, false, not, ◌&&◌, ◌||◌, cond}
+use mathlib.Core.List.{List, [], ◌∷◌, ◌++◌}
 use Prim.Native.Nat.{ℕ, zero, suc, ◌*◌, ◌/◌, ◌<◌}
 use native.Mathlib.Omega.{arith}
-use borrow.Author.Tests.{ltb-true}
-use lib.Dec.{T, eqb, ltb}
+use borrow.Author.Tests.{ltb-true, eqb-true}
+use lib.Dec.{T, eqb, ltb, eqb-suc-zero}
+use lib.Ieee.Fits.{and_l, and_r}
 use lib.ListN.{length, get_or, take, drop}
 use lib.Ieee.{Float}
-use Rattle.std.proofs.lemmas.Bool.{and_parts}
+use Rattle.std.proofs.lemmas.Bool.{and_parts, not-false}
 use Rattle.rule.specs.Refusal.{POINT, FEW, ENDED, NONE, DOUBLE}
+use Rattle.rule.specs.Lists.{some}
 use Rattle.rule.specs.Order.{Test, first_failed, decided, if_passed}
 use Rattle.rule.proofs.Tests.{clash}
-use Rattle.rule.proofs.Order.{numbered, front as by_front, all_passed, none_failed, first_passed}
+use Rattle.rule.proofs.Order.{numbered, front as by_front, all_passed, none_failed, first_passed, numbered_append}
 use Rattle.numbers.specs.Constants.{farthest}
 use Rattle.numbers.specs.Ratio.{ratio}
 use Rattle.estimator.specs.Family.{Family, mark_at, distances_of}
@@ -40,9 +42,23 @@ use Rattle.pick.specs.Trial.{trial_answer}
 use Rattle.pick.specs.Indices.{marks_order, under_answer, winner_answer, indices_answer}
 use Rattle.form_records.specs.Camera.{camera_record, records_tests}
 use Rattle.salghemu.specs.Whole.{mark_bytes, order_of, later_tests, run_tests as whole_tests}
-use Rattle.orders.specs.ShortFirst.{now, before, front, short_and_doubled, Changed, is_none, ended, unheld, trial_order, indices_order, OfFamily, Order7}
+use Rattle.orders.specs.ShortFirst.{now, before, stopped, short_and_doubled, Changed, is_none, ended, unheld, trial_order, indices_order, OfFamily, Order7}
 
 -- ---- by what the tests say
+
+-- Numbers are above 0, so 0 says that no test of a list failed.
+positive : (k : ℕ) → T (ltb 0 k) → eqb k 0 ≡ false
+positive zero h = absurd h
+positive (suc k) h = eqb-suc-zero k
+
+some_failed : (ts : List Test) → T (numbered ts) → not (eqb (first_failed ts) 0) ≡ some (λ t. t.fails) ts
+unfolding first_failed numbered
+some_failed [] n = refl
+some_failed (t ∷ ts) n = go t.fails (some_failed ts (and_r (ltb 0 t.number) (numbered ts) n))
+  where
+    go : (b : Bool) → not (eqb (first_failed ts) 0) ≡ some (λ u. u.fails) ts → not (eqb (cond b t.number (first_failed ts)) 0) ≡ (b || some (λ u. u.fails) ts)
+    go true e = rw (positive t.number (and_l (ltb 0 t.number) (numbered ts) n)) refl
+    go false e = e
 
 -- what an order answers, by what stands ahead (whether it passes, and its number), and by which of 6, 7 and 18 fail
 abbrev new : (ahead point few double : Bool) → (k after : ℕ) → ℕ
@@ -51,10 +67,10 @@ new ahead point few double k after = cond ahead (cond point POINT (cond few FEW 
 abbrev old : (ahead point few double : Bool) → (k after : ℕ) → ℕ
 old ahead point few double k after = cond ahead (cond point POINT (cond double DOUBLE (cond few FEW after))) k
 
-stopped : (a p w d : Bool) (k r : ℕ) → (cond a (cond p POINT 0) k ≡ 0 → ⊥) → new a p w d k r ≡ old a p w d k r
-stopped false p w d k r h = refl
-stopped true true w d k r h = refl
-stopped true false w d k r h = absurd (h refl)
+before_both : (a p w d : Bool) (k r : ℕ) → (cond a (cond p POINT 0) k ≡ 0 → ⊥) → new a p w d k r ≡ old a p w d k r
+before_both false p w d k r h = refl
+before_both true true w d k r h = refl
+before_both true false w d k r h = absurd (h refl)
 
 not_both : (a p w d : Bool) (k r : ℕ) → (w && d) ≡ false → new a p w d k r ≡ old a p w d k r
 not_both false p w d k r h = refl
@@ -89,23 +105,31 @@ module _ {E M K : Type 0} (f : Family E M K) (ahead : List Test) (marks : List F
   alike_by : new (eqb a 0) p w d a (first_failed after) ≡ old (eqb a 0) p w d a (first_failed after) → first_failed order ≡ first_failed (before f ahead marks after)
   alike_by same = by_now ∙ same ∙ sym by_before
 
+  abbrev front : List Test
+  front = ahead ++ (point marks ∷ [])
+
+  by_failing : not (eqb (first_failed front) 0) ≡ stopped f ahead marks after
+  unfolding stopped point numbered
+  by_failing = some_failed front (numbered_append ahead (point marks ∷ []) above_0 tt)
+
+  not_reached : stopped f ahead marks after ≡ true → first_failed front ≡ 0 → ⊥
+  not_reached h e = clash (by_failing ∙ h) (ap (λ k. not (eqb k 0)) e)
+
   -- where no test in front of both failed
-  module _ (reached : first_failed (front f ahead marks after) ≡ 0) where
+  module _ (none : stopped f ahead marks after ≡ false) where
+    reached : first_failed front ≡ 0
+    reached = eqb-true (first_failed front) 0 (not-false (eqb (first_failed front) 0) (by_failing ∙ none))
+
     ahead_passed : a ≡ 0
-    unfolding front
     ahead_passed = none_failed ahead (point marks ∷ []) reached
 
     point_passed : p ≡ false
-    unfolding front point
+    unfolding point
     point_passed = (first_passed (point marks) [] tt (all_passed ahead (point marks ∷ []) above_0 ahead_passed ∙ reached)).0
 
     in_range : all_within farthest marks ≡ true
     unfolding point
-    in_range = go (all_within farthest marks) point_passed
-      where
-        go : (b : Bool) → not b ≡ false → b ≡ true
-        go true h = refl
-        go false h = sym h
+    in_range = not-false (all_within farthest marks) point_passed
 
     now_is : first_failed order ≡ cond w FEW (cond d DOUBLE (first_failed after))
     now_is = by_now ∙ rw (ahead_passed, point_passed) refl
@@ -124,17 +148,17 @@ module _ {E M K : Type 0} (f : Family E M K) (ahead : List Test) (marks : List F
         go (m ∷ k ∷ l) e = omega arith
 
   changed : Changed f ahead marks after order
-  unfolding front short_and_doubled few first_failed point
+  unfolding short_and_doubled few first_failed point
   changed =
       record {
         is_now = is;
-        in_front = λ h. alike_by (stopped (eqb a 0) p w d a (first_failed after) (λ e. h (by_front ahead (point marks ∷ []) above_0 ∙ e)));
+        in_front = λ h. alike_by (before_both (eqb a 0) p w d a (first_failed after) (λ e. not_reached h (by_front ahead (point marks ∷ []) above_0 ∙ e)));
         alike = λ h. alike_by (not_both (eqb a 0) p w d a (first_failed after) h);
         turned = λ h both.
             let each = and_parts w d both in
             let more = more_than_one h each.1 in
             (before_is h ∙ rw (each.0, each.1) refl, now_is h ∙ rw (each.0) refl, omega (arith, more), ltb-true (length (f.marks_of marks)) f.least each.0);
-        still = λ h enough both. now_is h ∙ rw (enough, both) refl;
+        still = λ h enough both. (before_is h ∙ rw both refl, now_is h ∙ rw (enough, both) refl);
       }
 
 -- ---- what a trial and the indices answer
@@ -211,6 +235,7 @@ order_7 =
     let of_sheet = own sheet 4 Sheets.counts Sheets.placed in
     let of_form = own form 5 Forms.counts Forms.placed in
     record {
+      least = (refl, refl);
       sheets = of_family sheet 4 Sheets.counts Sheets.placed;
       forms = of_family form 5 Forms.counts Forms.placed;
       form_opening = λ options camera marks stops. changed form _ _ _ _ tt refl (of_form marks);

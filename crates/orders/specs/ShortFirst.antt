@@ -1,9 +1,10 @@
 -- Document 02, order 7: 'Short comes first wherever both are tested, doubled second, on one line third. The old answers that change are these: two or three sheet
 -- marks with a clashing pair go from 18 to 7, and two to five form marks likewise. Four or more marks all at one sheet position with unequal pixels still give
--- 18 and not 13. 7 now precedes 18 in each order.' The orders as they were stand here alone. `proofs/Shorter.antt` proves `Order7`.
+-- 18 and not 13. 7 now precedes 18 in each order.' No other definition has the orders as they were. `proofs/Shorter.antt` proves `Order7`.
 use Rattle.std.specs.Prelude.{◌≡◌, Bool, true, false, ◌&&◌, List, [], ◌∷◌, ◌++◌, ℕ, ◌<◌, ◌≤◌, ◌*◌, length, Float}
 use Rattle.rule.specs.Refusal.{FEW, ENDED, NONE, DOUBLE}
 use Rattle.rule.specs.Order.{Test, first_failed, decided, room}
+use Rattle.rule.specs.Lists.{some}
 use Rattle.estimator.specs.Family.{Family}
 use Rattle.estimator.specs.Marks.{shape, point, few, double, of_run, entries}
 use Rattle.sheet.specs.Marks.{marks_of}
@@ -39,25 +40,27 @@ module _ {E M K : Type 0} (f : Family E M K) (ahead : List Test) (marks : List F
 
   -- ---- what differs
 
-  -- the tests in front of both (where their `first_failed` is 0, none of them failed)
-  unfoldable pub front : List Test
-  front = ahead ++ (point marks ∷ [])
+  -- a test in front of both fails
+  unfoldable pub stopped : Bool
+  stopped = some (λ t. t.fails) (ahead ++ (point marks ∷ []))
 
+  -- the marks are fewer than the family's least, and two of them clash
   unfoldable pub short_and_doubled : Bool
   short_and_doubled = (few f marks).fails && (double f marks).fails
 
+  -- what is so of an order that had 18 in front of 7
   pub record Changed (order : List Test) : Type 0 where
     -- '7 now precedes 18'
     pub is_now : order ≡ now
-    -- A call is answered as before where a test in front of both turns it down,
-    pub in_front : (first_failed front ≡ 0 → ⊥) → first_failed order ≡ first_failed before
-    -- and where its marks aren't both short and doubled: so without a double nothing differs.
+    -- A call is answered as before where a test in front of both fails,
+    pub in_front : stopped ≡ true → first_failed order ≡ first_failed before
+    -- or where its marks aren't both short and doubled: so without a double nothing differs.
     pub alike : short_and_doubled ≡ false → first_failed order ≡ first_failed before
-    -- All other calls went from 18 to 7; and their marks are two or more, and fewer than the family's least: two or three of a sheet, two to five of a form.
-    pub turned : first_failed front ≡ 0 → short_and_doubled ≡ true
+    -- All other calls went from 18 to 7; and their marks are two or more, and fewer than the least.
+    pub turned : stopped ≡ false → short_and_doubled ≡ true
         → (first_failed before ≡ DOUBLE) × (first_failed order ≡ FEW) × (2 ≤ length (f.marks_of marks)) × (length (f.marks_of marks) < f.least)
-    -- Marks enough that are doubled 'still give 18', whatever else is asked of them after.
-    pub still : first_failed front ≡ 0 → (few f marks).fails ≡ false → (double f marks).fails ≡ true → first_failed order ≡ DOUBLE
+    -- Marks enough that are doubled 'still give 18', whatever is asked of them after: not 13 of the rows of a sheet, nor 12 of a form's.
+    pub still : stopped ≡ false → (few f marks).fails ≡ false → (double f marks).fails ≡ true → (first_failed before ≡ DOUBLE) × (first_failed order ≡ DOUBLE)
 
 -- ---- every entry that has both
 
@@ -86,17 +89,21 @@ module _ {E M K : Type 0} (f : Family E M K) where
     pub record_opening : (e : E) (bytes : List ℕ) (marks : List Float) (stops : List ℕ)
         → Changed f (options_record bytes ∷ (options_tests (options_of bytes) ++ (shape f marks ∷ []))) marks (entries f marks stops ∷ f.tests e)
         (options_record bytes ∷ opening_tests f e (options_of bytes) marks stops)
-    -- a trial, which answers by its order
+    -- A trial, which answers by its order; and the winner's indices, which are given where no test of theirs fails. (A run that was opened has marks enough, and
+    -- other numbers of marks are 5: so of these two only states made by hand go from 18 to 7.)
     pub trial : (r : Run E M) (c : Call)
         → Changed f (ended r ∷ of_run f r.n c.marks ∷ shape f c.marks ∷ []) c.marks (entries f c.marks c.stops ∷ trial_record f.size c.bytes ∷ []) (trial_order r c)
     pub trial_answers : (r : Run E M) (c : Call) → number_in (trial_answer f r c).outcome ≡ first_failed (trial_order r c)
-    -- the winner's indices, which are given where no test of theirs fails
     pub indices : (r : Run E M) (marks : List Float) (places : ℕ)
         → Changed f (unheld r ∷ of_run f r.n marks ∷ shape f marks ∷ []) marks (room (length (f.marks_of marks)) places ∷ []) (indices_order r marks places)
     pub indices_answers : (r : Run E M) (marks : List Float) (entry : List ℕ)
         → (count : ℕ) × (indices_answer f r marks entry ≡ decided (first_failed (indices_order r marks (length entry))) count)
 
+-- The openings, the rows and the whole run answer by these lists in their own definitions (`decided`, `after_tests`). The whole run's trials are judged over
+-- marks that have passed both.
 pub record Order7 : Type 0 where
+  -- so 'two or three sheet marks', and 'two to five form marks'
+  pub least : (sheet.least ≡ 4) × (form.least ≡ 6)
   pub sheets : OfFamily sheet
   pub forms : OfFamily form
   -- a form's opening from two records
