@@ -1,1 +1,2 @@
 pub mod Shorter
+pub mod Told

@@ -42,7 +42,7 @@ use Rattle.pick.specs.Trial.{trial_answer}
 use Rattle.pick.specs.Indices.{marks_order, under_answer, winner_answer, indices_answer}
 use Rattle.form_records.specs.Camera.{camera_record, records_tests}
 use Rattle.salghemu.specs.Whole.{mark_bytes, order_of, later_tests, run_tests as whole_tests}
-use Rattle.orders.specs.ShortFirst.{now, before, stopped, short_and_doubled, Changed, is_none, ended, unheld, trial_order, indices_order, OfFamily, Order7}
+use Rattle.orders.specs.ShortFirst.{now, before, stopped, short_and_doubled, Changed, is_none, ended, unheld, record_order, trial_order, indices_order, OfFamily, Order7}
 
 -- ---- by what the tests say
 
@@ -185,7 +185,7 @@ module _ {M : Type 0} (o : Options) (distances : M → List Float) (stops : List
   no_refusal (refitted fit refit) = judged_so fit (stands_of o distances stops fit refit)
 
 module _ {E M K : Type 0} (f : Family E M K) (r : Run E M) where
-  trial_number : (c : Call) → number_in (trial_answer f r c).outcome ≡ first_failed (trial_order f r c)
+  pub trial_number : (c : Call) → number_in (trial_answer f r c).outcome ≡ first_failed (trial_order f r c)
   unfolding number_in trial_answer tried judge_of judged_by_tests worth trial_order ended first_failed if_passed entered
   trial_number c = go (is_closed r.book) (first_failed (call_tests f r.n c))
     where
@@ -197,7 +197,7 @@ module _ {E M K : Type 0} (f : Family E M K) (r : Run E M) where
       go false zero = no_refusal (rule_of r.options) (distances_of f r.estimator r.options.ratio c.marks) c.stops r.book (trial_of f c.bytes)
       go false (suc k) = refl
 
-  indices_number : (marks : List Float) (entry : List ℕ) → (count : ℕ) × (indices_answer f r marks entry ≡ decided (first_failed (indices_order f r marks (length entry))) count)
+  pub indices_number : (marks : List Float) (entry : List ℕ) → (count : ℕ) × (indices_answer f r marks entry ≡ decided (first_failed (indices_order f r marks (length entry))) count)
   unfolding indices_answer winner_answer under_answer indices_order unheld first_failed decided
   indices_number marks entry = go r.book.winner
     where
@@ -218,7 +218,7 @@ module _ {E M K : Type 0} (f : Family E M K) (w : ℕ) (counts : (l : List Float
       rw numbers (front_within w (drop (w * 0) l) (behind farthest (w * 0) l pass))
 
   of_family : OfFamily f
-  unfolding now numbered run_tests enough_tests options_tests opening_tests call_tests marks_order trial_order indices_order ended unheld options_record thresh confidence iters ratio shape of_run
+  unfolding now numbered run_tests enough_tests options_tests opening_tests call_tests marks_order record_order trial_order indices_order ended unheld options_record thresh confidence iters ratio shape of_run
   of_family =
       record {
         opening = λ e o marks stops. changed f _ _ _ _ tt refl (own marks);

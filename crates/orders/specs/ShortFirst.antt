@@ -64,6 +64,10 @@ module _ {E M K : Type 0} (f : Family E M K) (ahead : List Test) (marks : List F
 
 -- ---- every entry that has both
 
+-- A call is refused by an order where one of its tests fails.
+abbrev pub RefusedBy : List Test → (number : ℕ) → Type 0
+RefusedBy order number = (first_failed order ≡ 0 → ⊥) → number ≡ first_failed order
+
 abbrev pub is_none : {M : Type 0} → Held M → Bool
 is_none none = true
 is_none (held w) = false
@@ -75,6 +79,10 @@ module _ {E M K : Type 0} (f : Family E M K) where
 
   unfoldable pub unheld : Run E M → Test
   unheld r = record { fails = is_none r.book.winner; number = NONE }
+
+  -- that of an opening from a record
+  unfoldable pub record_order : E → (bytes : List ℕ) → List Float → List ℕ → List Test
+  record_order e bytes marks stops = options_record bytes ∷ opening_tests f e (options_of bytes) marks stops
 
   unfoldable pub trial_order : Run E M → Call → List Test
   trial_order r c = ended r ∷ call_tests f r.n c
@@ -88,7 +96,7 @@ module _ {E M K : Type 0} (f : Family E M K) where
         → Changed f (options_tests o ++ (shape f marks ∷ [])) marks (entries f marks stops ∷ f.tests e) (opening_tests f e o marks stops)
     pub record_opening : (e : E) (bytes : List ℕ) (marks : List Float) (stops : List ℕ)
         → Changed f (options_record bytes ∷ (options_tests (options_of bytes) ++ (shape f marks ∷ []))) marks (entries f marks stops ∷ f.tests e)
-        (options_record bytes ∷ opening_tests f e (options_of bytes) marks stops)
+        (record_order e bytes marks stops)
     -- A trial, which answers by its order; and the winner's indices, which are given where no test of theirs fails. (A run that was opened has marks enough, and
     -- other numbers of marks are 5: so of these two only states made by hand go from 18 to 7.)
     pub trial : (r : Run E M) (c : Call)
