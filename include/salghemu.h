@@ -72,7 +72,19 @@ enum salghemu_refusal {
     SALGHEMU_CAMERA = 17,
     /* Two marks have one position and two pixels. The same mark twice is no
        fault. */
-    SALGHEMU_DOUBLE = 18
+    SALGHEMU_DOUBLE = 18,
+    /* From here on they are refusals to come; no function here answers them
+       yet. */
+    /* A number has no equal 32-bit float. */
+    SALGHEMU_NARROW = 19,
+    /* A point of a path can't be mapped. */
+    SALGHEMU_PATH = 20,
+    /* What a stop list is to be made of is out of range. */
+    SALGHEMU_PLAN = 21,
+    /* No thresholds, too many, or one that is not below the next. */
+    SALGHEMU_LADDER = 22,
+    /* A side or a cosine of a triangle is out of range. */
+    SALGHEMU_TRIANGLE = 23
 };
 
 /*

@@ -35,6 +35,11 @@ in-order =
     ∷ Refusals.Ratio
     ∷ Refusals.Camera
     ∷ Refusals.Double
+    ∷ Refusals.Narrow
+    ∷ Refusals.Path
+    ∷ Refusals.Plan
+    ∷ Refusals.Ladder
+    ∷ Refusals.Triangle
     ∷ []
 
 refusal_of : ℕ → Refusal
@@ -60,6 +65,11 @@ numbered Refusals.Number = refl
 numbered Refusals.Ratio = refl
 numbered Refusals.Camera = refl
 numbered Refusals.Double = refl
+numbered Refusals.Narrow = refl
+numbered Refusals.Path = refl
+numbered Refusals.Plan = refl
+numbered Refusals.Ladder = refl
+numbered Refusals.Triangle = refl
 
 -- 0 is no refusal's number
 pub number_above_0 : {A : Type 0} (e : Refusal) → number_of e ≡ 0 → A
@@ -81,6 +91,11 @@ number_above_0 Refusals.Number h = absurd (omega (arith, h))
 number_above_0 Refusals.Ratio h = absurd (omega (arith, h))
 number_above_0 Refusals.Camera h = absurd (omega (arith, h))
 number_above_0 Refusals.Double h = absurd (omega (arith, h))
+number_above_0 Refusals.Narrow h = absurd (omega (arith, h))
+number_above_0 Refusals.Path h = absurd (omega (arith, h))
+number_above_0 Refusals.Plan h = absurd (omega (arith, h))
+number_above_0 Refusals.Ladder h = absurd (omega (arith, h))
+number_above_0 Refusals.Triangle h = absurd (omega (arith, h))
 
 module _ {A B : Type 0} (view : A → B) (back : B → A) (undone : (a : A) → back (view a) ≡ a) where
   result_of : Answer B → Result A Refusal

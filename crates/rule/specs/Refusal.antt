@@ -75,6 +75,28 @@ CAMERA = 17
 abbrev pub DOUBLE : ℕ
 DOUBLE = 18
 
+-- From here to 23: named now, and no call answers them yet.
+
+-- a number has no equal binary32
+abbrev pub NARROW : ℕ
+NARROW = 19
+
+-- a point of a path can't be mapped
+abbrev pub PATH : ℕ
+PATH = 20
+
+-- n, the sample size or the confidence that a stop list is made of is out of range
+abbrev pub PLAN : ℕ
+PLAN = 21
+
+-- no thresholds, over 16 of them, or one that isn't below the next
+abbrev pub LADDER : ℕ
+LADDER = 22
+
+-- a side or a cosine is out of range
+abbrev pub TRIANGLE : ℕ
+TRIANGLE = 23
+
 -- the number of each refusal of the code
 abbrev pub number_of : Refusal → ℕ
 number_of Refusals.Record = RECORD
@@ -95,3 +117,8 @@ number_of Refusals.Number = NUMBER
 number_of Refusals.Ratio = RATIO
 number_of Refusals.Camera = CAMERA
 number_of Refusals.Double = DOUBLE
+number_of Refusals.Narrow = NARROW
+number_of Refusals.Path = PATH
+number_of Refusals.Plan = PLAN
+number_of Refusals.Ladder = LADDER
+number_of Refusals.Triangle = TRIANGLE

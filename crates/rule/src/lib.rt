@@ -4,7 +4,7 @@
 
 ghost use Rattle.std.specs.Prelude.{◌≡◌};
 ghost use Rattle.rule.specs.Refusal.{number_of};
-ghost use Rattle.rule.specs.Answer.{refusal_in};
+ghost use Rattle.rule.specs.Answer.{refusal_in, OneItself};
 
 use std::error::Error;
 use std::fmt;
@@ -29,6 +29,11 @@ pub enum Refusal {
     Ratio = 16,
     Camera = 17,
     Double = 18,
+    Narrow = 19,
+    Path = 20,
+    Plan = 21,
+    Ladder = 22,
+    Triangle = 23,
 }
 
 impl From<Refusal> for u32 {
@@ -58,3 +63,9 @@ pub fn number<T: Copy>(answer: Result<T, Refusal>) -> u32
         Err(refusal) => u32::from(refusal),
     }
 }
+
+/// That a contract on what a `Result` stands for leaves one answer, where its value stands for itself.
+#[tactic(auto, using(crate::proofs::Views::answered_one))]
+pub fn one_answer<T>()
+    ensures { OneItself T }
+{}
