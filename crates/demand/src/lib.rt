@@ -1,20 +1,24 @@
-// The customer's third demand, one theorem: `specs/Demand.antt` states it, each clause beside the
-// demand's words, and `proofs/Demanded.antt` proves it (`demand_3`). The functions here only call
-// through: each promises, in the theorem's own words, what the theorem takes as its premise, so that
-// a weaker contract of what is called breaks this crate.
+// The customer's third demand, one theorem: `specs/Demand.antt` states it, each clause beside the demand's
+// words, and `demand_3` promises it. What it takes as its premises is what the calls promise at their own
+// types: `sheets` and `forms` have functions that only call through, and promise just these. The functions
+// here do the same of any family, and `calls_kept` promises what the demand says of its calls.
 #![tactic(auto)]
 
-ghost use Rattle.rule.specs.Answer.{refusal_in};
+pub mod forms;
+pub mod sheets;
+mod theorems;
+
 ghost use Rattle.judge.specs.Judging.{call_of};
-ghost use Rattle.demand.specs.Demand.{Opens, OpensBy, OpensByRecords, Tried as Tries, Stepped, Indexes, Ran};
+ghost use Rattle.demand.specs.Demand.{Opens, OpensBy, Tried as Tries, Stepped, Indexes};
 
 use estimator::Estimator;
-use form::{Camera, Model};
 use judge::Call;
 use pick::{State, Tried};
 use records::RansacOptions;
 use rule::Refusal;
+pub use theorems::{calls_kept, demand_3, no_square_negative, old_bits};
 
+/// The opening, by the options type.
 pub fn open<E: Estimator>(
     e: E,
     o: RansacOptions,
@@ -26,6 +30,7 @@ pub fn open<E: Estimator>(
     pick::open(e, o, marks, stops)
 }
 
+/// The opening, by a record of options.
 pub fn open_record<E: Estimator>(
     e: E,
     bytes: &[u8],
@@ -37,29 +42,21 @@ pub fn open_record<E: Estimator>(
     pick::open_record(e, bytes, marks, stops)
 }
 
-pub fn open_records(
-    options: &[u8],
-    camera: &[u8],
-    marks: &[f64],
-    stops: &[u32],
-) -> Result<State<Camera, Model>, Refusal>
-    ensures { OpensByRecords options.now camera.now marks.now stops.now result }
-{
-    form_records::open_records(options, camera, marks, stops)
-}
-
+/// A trial.
 pub fn trial<E: Estimator>(s: State<E, E::Model>, call: Call) -> Tried<E, E::Model>
     ensures { Tries E.family s (call_of call.entry) result.state (record { outcome = result.outcome; beyond = result.beyond }) }
 {
     pick::trial(s, call)
 }
 
+/// A trial over marks that the opening has tested.
 pub fn step<E: Estimator>(s: State<E, E::Model>, call: Call) -> Tried<E, E::Model>
     ensures { Stepped E.family s (call_of call.entry) result.state (record { outcome = result.outcome; beyond = result.beyond }) }
 {
     pick::step(s, call)
 }
 
+/// The winner's indices.
 pub fn winner_indices<E: Estimator>(
     s: State<E, E::Model>,
     marks: &[f64],
@@ -68,17 +65,4 @@ pub fn winner_indices<E: Estimator>(
     ensures { Indexes E.family s marks.now indices.old result indices.new }
 {
     pick::winner_indices(s, marks, indices)
-}
-
-pub fn run(
-    options: &[u8],
-    marks: &[u8],
-    stops: &[u8],
-    trials: &[u8],
-    winner: &mut [u8],
-    indices: &mut [u8],
-) -> Result<(), Refusal>
-    ensures { Ran (record { options = options.now; marks = marks.now; stops = stops.now; trials = trials.now }) winner.old indices.old (refusal_in result) winner.new indices.new }
-{
-    salghemu::salghemu_run(options, marks, stops, trials, winner, indices)
 }

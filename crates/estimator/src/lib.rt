@@ -2,12 +2,12 @@
 // `Estimator`): what each family gives, and the tests of a list of marks, which all of them share.
 #![tactic(auto)]
 
-ghost use Rattle.std.specs.Prelude.{◌≡◌, OnOk, ℕ, List, ◌≤◌, ◌<◌, ◌*◌, ◌/◌, eqb, length, take, drop, Float};
+ghost use Rattle.std.specs.Prelude.{◌≡◌, OnOk, true, ℕ, List, ◌≤◌, ◌<◌, ◌*◌, ◌/◌, eqb, length, take, drop, Float};
 ghost use Rattle.std.specs.Float.{binary64};
 ghost use Rattle.std.specs.Float.Ieee.{to_bits};
 ghost use Rattle.rule.specs.Answer.{refusal_in, told};
 ghost use Rattle.rule.specs.Lists.{every};
-ghost use Rattle.rule.specs.Order.{first_failed};
+ghost use Rattle.rule.specs.Order.{first_failed, all_numbered};
 ghost use Rattle.numbers.specs.Constants.{farthest};
 ghost use Rattle.numbers.specs.Finite.{all_finite, within};
 ghost use Rattle.estimator.specs.Family.{Family, mark_at, measure_of, squared_distance_of};
@@ -93,6 +93,12 @@ pub trait Estimator: Copy {
 
     // A mark's numbers stand side by side.
     ghost placed: { (l : List Float) (i : ℕ) → i < length l / WIDTH → family.mark_numbers (mark_at family l i) ≡ take WIDTH (drop (WIDTH * i) l) };
+
+    // The numbers of the candidate of a list are the list's first.
+    ghost modelled: { (l : List Float) → SIZE ≤ length l → family.model_numbers (family.model_of l) ≡ take SIZE l };
+
+    // No test that a family asks has number 0, which would say that it passed.
+    ghost numbered: { (e : Self) → all_numbered (family.tests e) ≡ true };
 }
 
 // How many marks: those that the list has in full.

@@ -1,13 +1,19 @@
 -- That forms are what a family has to be. (Nothing here has to be read: it is checked.)
-use mathlib.Core.Path.{◌≡◌, refl}
+use mathlib.Core.Bool.{true}
+use mathlib.Core.Path.{◌≡◌, refl, sym}
 use mathlib.Core.List.{List, [], ◌∷◌}
 use Prim.Native.Nat.{ℕ, zero, suc, ◌*◌, ◌/◌, ◌≤◌, ◌<◌}
 use native.Mathlib.Omega.{arith}
 use lib.ListN.{length, take, drop}
 use lib.Ieee.{Float}
+use Rattle.rule.specs.Order.{all_numbered}
+use Rattle.rule.proofs.Lists.{places_at, some_by_one}
+use Rattle.numbers.specs.Constants.{zero'}
 use Rattle.estimator.specs.Family.{mark_at}
 use Rattle.form.specs.Marks.{marks_of, mark_numbers}
+use Rattle.form.specs.Distance.{model_of, model_numbers, camera}
 use Rattle.form.specs.Forms.{form}
+use Rattle.form.specs.declared.model.Camera.{Camera}
 
 pub wide : 4 ≤ 5
 wide = omega arith
@@ -39,3 +45,11 @@ placed (x ∷ y ∷ z ∷ []) i h = absurd (omega (arith, h))
 placed (x ∷ y ∷ z ∷ u ∷ []) i h = absurd (omega (arith, h))
 placed (x ∷ y ∷ z ∷ u ∷ v ∷ rest) zero h = refl
 placed (x ∷ y ∷ z ∷ u ∷ v ∷ rest) (suc i) h = rw (next i) (placed rest i (omega (arith, h)))
+
+pub modelled : (l : List Float) → 12 ≤ length l → model_numbers (model_of l) ≡ take 12 l
+unfolding model_numbers places_at
+modelled l h = sym (some_by_one 12 0 l zero' h)
+
+pub numbered : (e : Camera) → all_numbered (form.tests e) ≡ true
+unfolding camera
+numbered e = refl

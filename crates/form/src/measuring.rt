@@ -4,7 +4,7 @@ ghost use Rattle.std.specs.Prelude.{◌≡◌, refl};
 ghost use Rattle.rule.specs.Answer.{told};
 ghost use Rattle.estimator.specs.Entry.{measured, distance_answer};
 ghost use Rattle.form.specs.Forms.{form};
-ghost use Rattle.form.specs.Owed.{wide, narrow, small, counts, placed};
+ghost use Rattle.form.specs.Owed.{wide, narrow, small, counts, placed, modelled, numbered};
 
 use crate::marks::{Mark, mark_at, pixel_of, point_of};
 use crate::model::{Camera, Model, project_point, squared_residual, transform_point};
@@ -82,6 +82,10 @@ impl Estimator for Camera {
     ghost counts = { counts };
 
     ghost placed = { placed };
+
+    ghost modelled = { modelled };
+
+    ghost numbered = { numbered };
 }
 
 // The distance of a mark under a candidate and a camera by a row ratio, none where the mark is beyond;

@@ -28,15 +28,21 @@ place_read [] i d e h = absurd (omega (arith, h))
 place_read (a ∷ l) zero d e h = refl
 place_read (a ∷ l) (suc i) d e h = place_read l i d e (omega (arith, h))
 
--- a list of n elements more than i, from place i on, one by one
+-- n elements of a list from place i on, one by one
 unfoldable pub places_at : {A : Type 0} → (n i : ℕ) → List A → A → List A
 places_at zero i l d = []
 places_at (suc n) i l d = get_or l i d ∷ places_at n (suc i) l d
 
-pub one_by_one : {A : Type 0} (n i : ℕ) (l : List A) (d : A) → length l ≡ i + n → drop i l ≡ places_at n i l d
+pub some_by_one : {A : Type 0} (n i : ℕ) (l : List A) (d : A) → i + n ≤ length l → take n (drop i l) ≡ places_at n i l d
 unfolding places_at
-one_by_one zero i l d h = drop_of_length-le l {i = i} (omega (arith, h))
-one_by_one (suc n) i l d h = drop-cons l i d (omega (arith, h)) ∙ ap (λ rest. get_or l i d ∷ rest) (one_by_one n (suc i) l d (omega (arith, h)))
+some_by_one zero i l d h = refl
+some_by_one (suc n) i l d h = ap (take (suc n)) (drop-cons l i d (omega (arith, h))) ∙ ap (λ rest. get_or l i d ∷ rest) (some_by_one n (suc i) l d (omega (arith, h)))
+
+-- all from place i on, where these are n
+pub one_by_one : {A : Type 0} (n i : ℕ) (l : List A) (d : A) → length l ≡ i + n → drop i l ≡ places_at n i l d
+one_by_one n i l d h =
+    let long : length (drop i l) ≡ n = length-drop i l ∙ omega (arith, h) in
+    sym (ap (λ k. take k (drop i l)) (sym long) ∙ take-length (drop i l)) ∙ some_by_one n i l d (omega (arith, h))
 
 -- ---- a count, those that pass, and their places
 

@@ -2,11 +2,16 @@
 use Rattle.std.specs.Prelude.{Bool, cond, List, [], ◌∷◌, ℕ, zero, suc, ltb}
 use Rattle.rule.specs.Refusal.{ROOM}
 use Rattle.rule.specs.Answer.{Answer, refused, gives}
+use Rattle.rule.specs.Lists.{every}
 
 -- whether the call fails the test, and the number that says so
 pub record Test : Type 0 where
   pub fails : Bool
   pub number : ℕ
+
+-- No test of a list has 0 for its number, which would say that none failed.
+abbrev pub all_numbered : List Test → Bool
+all_numbered ts = every (λ t. ltb 0 t.number) ts
 
 -- the number of the first test that fails; 0 where none does
 unfoldable pub first_failed : List Test → ℕ

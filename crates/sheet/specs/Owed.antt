@@ -1,13 +1,19 @@
 -- That sheets are what a family has to be. (Nothing here has to be read: it is checked.)
-use mathlib.Core.Path.{◌≡◌, refl}
+use mathlib.Core.Bool.{true}
+use mathlib.Core.Path.{◌≡◌, refl, sym}
 use mathlib.Core.List.{List, [], ◌∷◌}
 use Prim.Native.Nat.{ℕ, zero, suc, ◌*◌, ◌/◌, ◌≤◌, ◌<◌}
 use native.Mathlib.Omega.{arith}
 use lib.ListN.{length, take, drop}
 use lib.Ieee.{Float}
+use Rattle.rule.specs.Order.{all_numbered}
+use Rattle.rule.proofs.Lists.{places_at, some_by_one}
+use Rattle.numbers.specs.Constants.{zero'}
 use Rattle.estimator.specs.Family.{mark_at}
 use Rattle.sheet.specs.Marks.{marks_of, mark_numbers}
+use Rattle.sheet.specs.Distance.{model_of, model_numbers}
 use Rattle.sheet.specs.Sheets.{sheet}
+use Rattle.sheet.specs.declared.model.Sheet.{Sheet}
 
 pub wide : 4 ≤ 4
 wide = omega arith
@@ -37,3 +43,10 @@ placed (x ∷ y ∷ []) i h = absurd (omega (arith, h))
 placed (x ∷ y ∷ u ∷ []) i h = absurd (omega (arith, h))
 placed (x ∷ y ∷ u ∷ v ∷ rest) zero h = refl
 placed (x ∷ y ∷ u ∷ v ∷ rest) (suc i) h = rw (next i) (placed rest i (omega (arith, h)))
+
+pub modelled : (l : List Float) → 9 ≤ length l → model_numbers (model_of l) ≡ take 9 l
+unfolding model_numbers places_at
+modelled l h = sym (some_by_one 9 0 l zero' h)
+
+pub numbered : (e : Sheet) → all_numbered (sheet.tests e) ≡ true
+numbered e = refl

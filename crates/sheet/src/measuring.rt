@@ -4,7 +4,7 @@ ghost use Rattle.std.specs.Prelude.{◌≡◌, refl};
 ghost use Rattle.rule.specs.Answer.{told};
 ghost use Rattle.estimator.specs.Entry.{measured, distance_answer};
 ghost use Rattle.sheet.specs.Sheets.{sheet, no_camera};
-ghost use Rattle.sheet.specs.Owed.{wide, narrow, small, counts, placed};
+ghost use Rattle.sheet.specs.Owed.{wide, narrow, small, counts, placed, modelled, numbered};
 
 use crate::marks::{Mark, Side, mark_at, point_of};
 use crate::model::{Model, Sheet, project, squared_residual};
@@ -79,6 +79,10 @@ impl Estimator for Sheet {
     ghost counts = { counts };
 
     ghost placed = { placed };
+
+    ghost modelled = { modelled };
+
+    ghost numbered = { numbered };
 }
 
 // The distance of a mark under a candidate by a row ratio, none where the mark is beyond; refused with 1
