@@ -1,8 +1,7 @@
--- The view of the distance can be taken back, so a contract on the view of the entry's answer fixes the answer (`told_one`). Assumes nothing.
+-- The view of the distance can be taken back, so a contract on the view of the entry's answer leaves one answer (`told_one`). Assumes nothing.
 use mathlib.Core.Path.{◌≡◌, refl}
-use Rattle.std.specs.Prelude.{Option, Some, None, Result, Float}
-use Rattle.rule.specs.Answer.{told}
-use Rattle.rule.specs.declared.Refusal.{Refusal}
+use Rattle.std.specs.Prelude.{Option, Some, None, Float}
+use Rattle.rule.specs.Answer.{OneAnswer}
 use Rattle.rule.proofs.Views.{told_one}
 use Rattle.numbers.specs.Measure.{Measure, beyond, distance}
 use Rattle.estimator.specs.Entry.{measured}
@@ -16,5 +15,5 @@ unfolding back
 undone (Some d) = refl
 undone None = refl
 
-pub view_one : (x y : Result (Option Float) Refusal) → told measured x ≡ told measured y → x ≡ y
+pub view_one : OneAnswer measured
 view_one = told_one measured back undone

@@ -5,7 +5,7 @@
 ghost use Rattle.std.specs.Prelude.{◌≡◌, OnOk, true, ℕ, List, ◌≤◌, ◌<◌, ◌*◌, ◌/◌, eqb, length, take, drop, Float};
 ghost use Rattle.std.specs.Float.{binary64};
 ghost use Rattle.std.specs.Float.Ieee.{to_bits};
-ghost use Rattle.rule.specs.Answer.{refusal_in, told};
+ghost use Rattle.rule.specs.Answer.{refusal_in, told, OneAnswer};
 ghost use Rattle.rule.specs.Lists.{every};
 ghost use Rattle.rule.specs.Order.{first_failed, all_numbered};
 ghost use Rattle.numbers.specs.Constants.{farthest};
@@ -238,4 +238,11 @@ pub fn distance<E: Estimator>(
     }
     e.validate()?;
     Ok(residual(e, h, m, ratio))
+}
+
+/// That a contract on what a measured distance stands for leaves one answer.
+#[tactic(auto, using(crate::proofs::View::view_one))]
+pub fn one_answer()
+    ensures { OneAnswer measured }
+{
 }
