@@ -1,11 +1,7 @@
 -- The root is IEEE 754's squareRoot under roundTiesToEven (document 01, 'Root').
 --
--- `root_correct`: for each finite positive double a, `root_of a` is a positive double; a lies strictly between the squares of the midpoints from it to
--- its two neighbours; and it is the only double of which that holds. The real root of a is then strictly between the two midpoints, so the double
--- nearest to it is `root_of a` and no other. It is never half-way between two doubles, so the rule for ties is never asked, and each of IEEE 754's
--- two roundings to nearest gives this double. At a power of two the lower neighbour is at half the spacing, and so is the midpoint: the
--- neighbours are doubles, not y less and plus one spacing. Roots lie from 2 ^ -537 to 2 ^ 512, so none is subnormal or overflows.
--- Of zero the root is the same zero, of infinity infinity: that is `root_of`'s own text. Assumes nothing.
+-- `root_correct`: of each finite positive double a, `root_of a` is the root, and no other double is (`Correct`, which `sqrt` and `root` promise). Roots lie from
+-- 2 ^ -537 to 2 ^ 512, so none is subnormal or overflows. Of zero the root is the same zero, of infinity infinity: that is `root_of`'s own text. Assumes nothing.
 use mathlib.Core.Path.{◌≡◌, refl, sym, ap, ap₂, subst, ◌∙◌}
 use mathlib.Core.Bool.{false}
 use Prim.Native.Nat.{ℕ, ◌+◌, ◌-◌, ◌*◌, ◌^◌, ◌<◌}
@@ -18,7 +14,7 @@ use lib.Ieee.Bits.{of_bits-to_bits, to_bits-of_bits, of_bits-fits}
 use lib.Ieee.Exact.{HasValue}
 use lib.Ieee.Positive.{positive, positive_of_value}
 use Rattle.root.specs.Double.{units, next_up, next_down}
-use Rattle.root.specs.Root.{lower_midpoint, upper_midpoint, IsRoot, root_bits, root_of}
+use Rattle.root.specs.Root.{lower_midpoint, upper_midpoint, IsRoot, Correct, root_bits, root_of}
 use Rattle.root.proofs.Patterns.{value, significand_pos}
 use Rattle.root.proofs.Bits.{PatternRoot, root_bits-root, root_bits_finite, root_order}
 use Rattle.root.proofs.Doubles.{no_nan, root_positive, pattern_finite, units-read, read-value}
@@ -77,10 +73,6 @@ module _ {a y : Float} {b p : ℕ} (A : Pattern a b) (Y : Pattern y p) where
 
 -- ---- the theorem
 
-pub record Correct (a : Float) : Type 0 where
-  pub is : IsRoot a (root_of a)
-  pub only : (y : Float) → IsRoot a y → y ≡ root_of a
-
 pub on_patterns : (a : Float) (b : ℕ) → Pattern a b → Pattern (of_bits binary64 (root_bits b)) (root_bits b)
 on_patterns a b A = let f = root_bits_finite b A.pos A.finite in made (root_bits b) f.0 f.1
 
@@ -88,7 +80,7 @@ same_pattern : (a y : Float) (b p q : ℕ) → Pattern a b → Pattern y p → P
 same_pattern a y b p q A Y r s pos =
     sym Y.read ∙ ap (of_bits binary64) (le_antisymm (root_order (value b) (value b) p q r s (le_refl (value b)) Y.pos) (root_order (value b) (value b) q p s r (le_refl (value b)) pos))
 
-pub root_correct : (a : Float) → T (fits binary64 a) → T (positive a) → Correct a
+pub root_correct : (a : Float) → T (fits binary64 a) → T (positive a) → Correct a (root_of a)
 root_correct a f p =
     let A = pattern a f p in
     let b = to_bits binary64 a in

@@ -5,4 +5,3 @@ pub mod Doubles
 pub mod Correct
 pub mod Monotone
 pub mod Square
-pub mod View

@@ -15,7 +15,7 @@ use lib.Ieee.Order.{le_of_values}
 use lib.Ieee.Positive.{positive, values_of_le}
 use Rattle.rule.proofs.Tests.{or_left, either}
 use Rattle.rule.proofs.Zero.{size_pos, no_size}
-use Rattle.root.specs.Root.{root_bits, has_root, root_of}
+use Rattle.root.specs.Root.{root_bits, has_root, root_of, RootMonotone}
 use Rattle.root.proofs.Patterns.{value, value_mono}
 use Rattle.root.proofs.Bits.{root_bits-root, root_order}
 use Rattle.root.proofs.Doubles.{root_positive, read-value}
@@ -72,7 +72,7 @@ infinity_above (fin s m e) p = tt
 is_pos : (m : ℕ) → T (ltb 0 (suc m))
 is_pos m = lt→ltb 0 (suc m) (zero-lt-suc m)
 
-pub root_monotone : (a b : Float) → T (fits binary64 a) → T (fits binary64 b) → T (has_root a) → T (le a b) → T (le (root_of a) (root_of b))
+pub root_monotone : RootMonotone
 unfolding has_root root_of le lt eq
 root_monotone nan b f g h l = absurd h
 root_monotone (inf true) b f g h l = absurd h

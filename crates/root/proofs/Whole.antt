@@ -1,6 +1,5 @@
--- The digits of the whole root. `after_each_digit`, in the words of document 02, order 4: after each digit the remainder is the part of the scaled
--- number taken so far less the square of the root so far, and at most twice that root. After all 54 the root is the whole root (`whole_is`). Then
--- the same digits as the loop finds them. Assumes nothing.
+-- The digits of the whole root: after each the remainder and the root are what they should be (`after_each_digit`), and after all 54 the root is the whole root
+-- (`whole_is`). Then the same digits as the loop finds them. Assumes nothing.
 use mathlib.Core.Path.{◌≡◌, refl, sym, ap, ◌∙◌}
 use mathlib.Core.Logic.{⊎_elim}
 use Prim.Native.Nat.{ℕ, zero, suc, ◌+◌, ◌-◌, ◌*◌, ◌/◌, ◌%◌, ◌^◌, ◌≤◌, ◌<◌}
@@ -12,7 +11,7 @@ use lib.Pow.{pow_pos, pow-add}
 use lib.Arith.{mod-mul}
 use Rattle.std.proofs.Common.{List, [], ◌∷◌, get_or}
 use Rattle.rule.proofs.Tests.{le_or_gt}
-use Rattle.root.specs.Digits.{Extracted, taken, Partial, one_more, after_digits, whole_root, Holds, Ready, NextDigit, Chosen}
+use Rattle.root.specs.Digits.{Extracted, taken, Partial, one_more, after_digits, AfterEachDigit, whole_root, Holds, Ready, NextDigit, Chosen}
 
 -- ---- squares
 
@@ -87,7 +86,7 @@ taken-all : (scaled : ℕ) → taken scaled 54 ≡ scaled
 unfolding taken
 taken-all scaled = div-one scaled
 
-pub after_each_digit : (scaled i : ℕ) → scaled < 4 ^ 54 → i ≤ 54 → Extracted (taken scaled i) (after_digits scaled i).root (after_digits scaled i).rem
+pub after_each_digit : AfterEachDigit
 unfolding after_digits
 after_each_digit scaled zero h l = record { square = taken_none scaled h; small = omega arith }
 after_each_digit scaled (suc i) h l =
@@ -224,7 +223,7 @@ pub ended : (scaled root left unit : ℕ) → Holds scaled 54 root left unit →
 unfolding whole_root
 ended scaled root left unit a = let r : root ≡ (after_digits scaled 54).root * 2 = a.in_units ∙ ap (λ (j : ℕ). (after_digits scaled 54).root * j) a.halved in omega arith
 
--- ---- the order's sentence, of what the loop holds
+-- ---- the sentence, of what the loop holds
 
 -- what is left is the remainder in units, and less than a unit more
 module _ (scaled i root left unit : ℕ) (h : i ≤ 54) (a : Holds scaled i root left unit) where

@@ -2,8 +2,8 @@
 --
 -- 'The root is to come digit by digit, multiplying in that loop by constants alone and carrying a remainder. After each digit the remainder is shown
 -- to be the part of the scaled number taken so far less the square of the root so far, and at most twice that root.' The digits are those of
--- `after_digits`; what is shown is `Extracted`, by the theorem `after_each_digit` in proofs/Whole.antt; and that the loop carries just these roots and
--- remainders is `Holds`, the promise of `after_digits`, for each number of digits. `carried` says the sentence of what the loop holds.
+-- `after_digits`. That the sentence is so of them is `AfterEachDigit`, which a function of src/lib.rt promises. The loop there has two promises, for each
+-- number of digits: it carries just these roots and remainders (`AllHold`), and the sentence is so of what it carries (`AllExtracted`).
 use Rattle.std.specs.Prelude.{◌≡◌, cond, ℕ, zero, suc, ◌+◌, ◌*◌, ◌/◌, ◌-◌, ◌%◌, ◌^◌, ◌≤◌, ◌<◌, leb, List, length, get_or}
 use Rattle.root.specs.declared.Digits.{Digits}
 
@@ -33,6 +33,10 @@ one_more p two =
 unfoldable pub after_digits : ℕ → ℕ → Partial
 after_digits scaled zero = record { root = 0; rem = 0 }
 after_digits scaled (suc i) = one_more (after_digits scaled i) (taken scaled (suc i) % 4)
+
+-- The sentence, of every number of 108 digits and after each of the 54.
+abbrev pub AfterEachDigit : Type 0
+AfterEachDigit = (scaled i : ℕ) → scaled < 4 ^ 54 → i ≤ 54 → Extracted (taken scaled i) (after_digits scaled i).root (after_digits scaled i).rem
 
 -- The whole root of a number below 4 ^ 54.
 unfoldable pub whole_root : ℕ → ℕ
@@ -78,3 +82,11 @@ HoldsAt numbers i states unit k = (d : Digits) → Holds (get_or numbers k 0 * 2
 
 abbrev pub AllHold : (numbers : List ℕ) (i : ℕ) (states : List Digits) (unit : ℕ) → Type 0
 AllHold numbers i states unit = (k : ℕ) → k < length numbers → HoldsAt numbers i states unit k
+
+-- The sentence, of what the loop holds of the one at place k: in whole units, its root and its remainder are those of the part taken of the number times 2 ^ 54.
+abbrev pub ExtractedAt : (numbers : List ℕ) (i : ℕ) (states : List Digits) (unit k : ℕ) → Type 0
+ExtractedAt numbers i states unit k =
+    (d : Digits) → Extracted (taken (get_or numbers k 0 * 2 ^ 54) i) ((get_or states k d).root / unit) ((get_or states k d).left / unit)
+
+abbrev pub AllExtracted : (numbers : List ℕ) (i : ℕ) (states : List Digits) (unit : ℕ) → Type 0
+AllExtracted numbers i states unit = (k : ℕ) → k < length numbers → ExtractedAt numbers i states unit k

@@ -1,9 +1,9 @@
 -- Document 01, 'Root', and refusal 15: the square root of a double, IEEE 754's squareRoot under roundTiesToEven.
--- `root_of` computes it. That it is the root that 01 describes (`IsRoot`), and the only one, is `proofs/Correct.antt`.
+-- `root_of` computes it. That it is the root that 01 describes (`IsRoot`), and the only one, is `Correct`, which `sqrt` promises beside its value.
 use Rattle.std.specs.Prelude.{Bool, true, false, not, cond, ◌≡◌, ℕ, zero, suc, ◌+◌, ◌-◌, ◌*◌, ◌/◌, ◌%◌, ◌^◌, ◌<◌, T, ltb, Float}
 use Rattle.std.specs.Int.Count.{count_leading_zeros}
 use Rattle.std.specs.Float.{nan, inf, fin, binary64}
-use Rattle.std.specs.Float.Ieee.{of_bits, to_bits, fits}
+use Rattle.std.specs.Float.Ieee.{of_bits, to_bits, fits, le}
 use Rattle.std.specs.Float.Ieee.Positive.{positive}
 use Rattle.rule.specs.Refusal.{NUMBER}
 use Rattle.rule.specs.Answer.{Answer, refused, gives}
@@ -27,6 +27,12 @@ pub record IsRoot (a y : Float) : Type 0 where
   pub above_zero : T (positive y)
   pub lower : lower_midpoint y * lower_midpoint y < 4 * (units a * 2 ^ 1074)
   pub upper : 4 * (units a * 2 ^ 1074) < upper_midpoint y * upper_midpoint y
+
+-- y is the root of a, and the only one. The real root of a is strictly between the two midpoints, so the double nearest to it is y and no other: it is never
+-- half-way between two doubles, so the rule for ties is never asked, and each of IEEE 754's two roundings to nearest gives this double.
+pub record Correct (a y : Float) : Type 0 where
+  pub is : IsRoot a y
+  pub only : (z : Float) → IsRoot a z → z ≡ y
 
 -- ---- the root of the bit pattern b of a finite positive double, as a bit pattern
 
@@ -75,6 +81,10 @@ root_of nan = nan
 root_of (inf s) = cond s nan (inf s)
 root_of (fin s zero e) = fin s zero e
 root_of (fin s (suc m) e) = cond s nan (of_bits binary64 (root_bits (to_bits binary64 (fin s (suc m) e))))
+
+-- Of two doubles that have roots, the root of the one that is not smaller is not smaller. Zeros of both signs and infinity have roots too.
+abbrev pub RootMonotone : Type 0
+RootMonotone = (a b : Float) → T (fits binary64 a) → T (fits binary64 b) → T (has_root a) → T (le a b) → T (le (root_of a) (root_of b))
 
 -- ---- the entry
 

@@ -3,26 +3,28 @@
 // squared (document 02, order 4).
 //
 // `sqrt` is for callers in other crates, total as Rust's is, and `sqrt_two` for those that have two
-// numbers. `root` is the entry that refuses.
+// numbers. `root` is the entry that refuses. `after_digits`, the loop, is public for what it promises.
 #![tactic(auto)]
 
-ghost use Rattle.std.specs.Prelude.{◌≡◌, T, ◌+◌, ◌-◌, ◌*◌, ◌/◌, ◌≤◌, ◌<◌, ◌^◌};
+ghost use Rattle.std.specs.Prelude.{◌≡◌, T, IfOk, ◌+◌, ◌-◌, ◌*◌, ◌/◌, ◌≤◌, ◌<◌, ◌^◌};
 ghost use Rattle.std.specs.Float.{binary64};
 ghost use Rattle.std.specs.Float.Ieee.{to_bits};
 ghost use Rattle.std.specs.Float.Ieee.Positive.{positive};
 ghost use Rattle.rule.specs.Answer.{answered};
-ghost use Rattle.root.specs.Digits.{Chosen, Ready, NextDigit, Holds, AllShort, AllHold};
-ghost use Rattle.root.specs.Root.{significand, exponent, shift_of, IsScaled, root_of, root_answer};
+ghost use Rattle.root.specs.Digits.{AfterEachDigit, Chosen, Ready, NextDigit, Holds, AllShort, AllHold, AllExtracted};
+ghost use Rattle.root.specs.Root.{significand, exponent, shift_of, IsScaled, root_of, root_answer, Correct, RootMonotone};
 
 use rule::Refusal;
 
-// What the digit loop carries of a number, in place: the root so far times the unit; and what is left of
-// the number, that is the remainder times the unit with the digits still to come behind it. With each
-// digit what is left doubles and the unit halves, so that no digit is ever brought down.
+/// What the digit loop carries of a number, in place: in units of 2 ^ (55 - i) after i digits. With each
+/// digit what is left doubles and the unit halves, so that no digit is ever brought down.
 #[derive(Clone, Copy)]
-struct Digits {
-    root: u64,
-    left: u64,
+pub struct Digits {
+    /// The root so far, times the unit.
+    pub root: u64,
+    /// What is left of the number: the remainder times the unit, and the digits still to come behind it,
+    /// which are less than a unit.
+    pub left: u64,
 }
 
 // A finite positive double that is scaled for its root: its significand n, in 53 or 54 digits, and the
@@ -110,10 +112,12 @@ fn six_digits<const N: usize>(
     s
 }
 
-// The first `count` digits of each root.
-fn after_digits<const N: usize>(n: [u64; N], count: u32) -> [Digits; N]
+/// The first `count` of the 54 digits of each root, in units of 2 ^ (55 - count). Each is the root of
+/// n * 2 ^ 54, for an n of the list, which has 54 digits at most.
+pub fn after_digits<const N: usize>(n: [u64; N], count: u32) -> [Digits; N]
     requires { AllShort n × (count ≤ 54) }
-    ensures { AllHold n.entry count result (2 ^ (55 - count)) }
+    ensures held { AllHold n.entry count result (2 ^ (55 - count)) }
+    ensures extracted { AllExtracted n.entry count result (2 ^ (55 - count)) }
 {
     let mut s = [Digits { root: 0, left: 0 }; N];
     for k in 0..N {
@@ -194,10 +198,11 @@ fn is_plain(a: f64) -> bool
     0.0 < a && a < f64::INFINITY
 }
 
-// The root of `a`; a NaN where there is none. Total, for callers in other crates.
+/// The root of `a`; a NaN where there is none. Total, for callers in other crates.
 #[tactic(auto, using(crate::proofs::Doubles::own_root, crate::proofs::Doubles::no_root, crate::proofs::Whole::short_none, crate::proofs::Whole::short_more))]
 pub fn sqrt(a: f64) -> f64
-    ensures { result ≡ root_of a }
+    ensures value { result ≡ root_of a }
+    ensures correct { T (positive a) → Correct a result }
 {
     if is_plain(a) {
         let s = scale(a);
@@ -207,8 +212,9 @@ pub fn sqrt(a: f64) -> f64
     if 0.0 <= a { a } else { f64::NAN }
 }
 
-// The roots of two numbers, side by side, which takes two thirds of the time of one after the other.
-// Total, as `sqrt` is. (One function for any number of them is no plainer: it would ask whether all are
+/// The roots of two numbers, side by side, which takes two thirds of the time of one after the other.
+/// Total, as `sqrt` is.
+// (One function for any number of them is no plainer: it would ask whether all are
 // plain, and else take each by itself, as this one does.)
 #[tactic(auto, using(crate::proofs::Whole::short_none, crate::proofs::Whole::short_more))]
 pub fn sqrt_two(a: f64, b: f64) -> (f64, f64)
@@ -223,10 +229,11 @@ pub fn sqrt_two(a: f64, b: f64) -> (f64, f64)
     (sqrt(a), sqrt(b))
 }
 
-// The root of `a`; refused with 15 where `a` is a NaN or negative.
+/// The root of `a`; refused with 15 where `a` is a NaN or negative.
 #[tactic(auto, using(crate::proofs::Doubles::root_given, crate::proofs::Doubles::turned_down))]
 pub fn root(a: f64) -> Result<f64, Refusal>
-    ensures { answered result ≡ root_answer a }
+    ensures answer { answered result ≡ root_answer a }
+    ensures correct { T (positive a) → IfOk result (λ y. Correct a y) }
 {
     if a >= 0.0 {
         Ok(sqrt(a))
@@ -234,3 +241,15 @@ pub fn root(a: f64) -> Result<f64, Refusal>
         Err(Refusal::Number)
     }
 }
+
+/// That the root is monotone: a number that is not smaller has a root that is not smaller.
+#[tactic(auto, using(crate::proofs::Monotone::root_monotone))]
+pub fn root_monotone()
+    ensures { RootMonotone }
+{}
+
+/// That after each digit the remainder is the part taken so far less the square of the root so far, and
+/// at most twice that root.
+pub fn after_each_digit()
+    ensures { AfterEachDigit }
+{}

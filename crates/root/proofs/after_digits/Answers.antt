@@ -4,7 +4,7 @@ use Prim.Native.Nat.{◌+◌, ◌*◌, ◌/◌}
 use native.Mathlib.Omega.{arith}
 use borrow.Author.Count.{below_more}
 use Rattle.std.proofs.lemmas.List.{length-set, get_or-set_same, get_or-set_other}
-use Rattle.root.proofs.Whole.{begun}
+use Rattle.root.proofs.Whole.{begun, carried}
 use Rattle.root.proofs.after_digits.Goals as goal
 
 pub loop-k-preserved : goal.loop-k-preserved
@@ -18,3 +18,9 @@ loop-turn-preserved g c = rw (let e : 6 * (c.loop-turn.turn + 1) ≡ 6 * c.loop-
 
 pub loop-more-init : goal.loop-more-init
 loop-more-init g c = rw (let e : c.args.count / 6 * 6 ≡ 6 * c.loop-turn.turn = omega arith in e) c.loop-turn.invariant
+
+pub returns-clause-extracted : goal.returns-clause-extracted
+returns-clause-extracted g c = λ k h d.
+    let a = c.loop-more.invariant k h d in
+    let e : c.loop-more.more ≡ c.args.count = omega arith in
+    rw (← e, ← a.halved) (carried _ _ _ _ _ (omega (arith, c.requires.0 k)) (omega arith) a)
