@@ -1,8 +1,7 @@
--- The view of the roots can be taken back, so a contract on the view of the entry's answer fixes the answer (`told_one`). Assumes nothing.
+-- The view of the roots can be taken back, so a contract on the view of the entry's answer fixes the answer. Assumes nothing.
 use mathlib.Core.Path.{◌≡◌, refl}
-use Rattle.std.specs.Prelude.{List, [], ◌∷◌, Result, Float}
-use Rattle.rule.specs.Answer.{told}
-use Rattle.rule.specs.declared.Refusal.{Refusal}
+use Rattle.std.specs.Prelude.{List, [], ◌∷◌, Float}
+use Rattle.rule.specs.Answer.{OneAnswer}
 use Rattle.rule.proofs.Views.{told_one}
 use Rattle.numbers.specs.Quadratic.{view_quadratic}
 use Rattle.numbers.specs.declared.quadratic.Quadratic.{Quadratic}
@@ -20,5 +19,5 @@ undone NoRoot = refl
 undone (One a) = refl
 undone (Two a b) = refl
 
-pub view_one : (x y : Result Quadratic Refusal) → told view_quadratic x ≡ told view_quadratic y → x ≡ y
+pub view_one : OneAnswer view_quadratic
 view_one = told_one view_quadratic back undone

@@ -8,6 +8,6 @@ mod rank;
 mod ratio;
 
 pub use finite::{abs, ensure_finite, is_finite, within};
-pub use quadratic::{Quadratic, solve_quadratic_real};
+pub use quadratic::{Quadratic, one_answer, solve_quadratic_real};
 pub use rank::dlt_rank_ok;
 pub use ratio::{ratio_accepted, squared_off};

@@ -1,7 +1,7 @@
 // The real roots of a quadratic (document 01, 'Quadratic'; linalg.rs): every operation once, in the
 // source's order, so that each bit is the Rust's.
 ghost use Rattle.std.specs.Prelude.{◌≡◌};
-ghost use Rattle.rule.specs.Answer.{told};
+ghost use Rattle.rule.specs.Answer.{told, OneAnswer};
 ghost use Rattle.numbers.specs.Quadratic.{counts0, linear, ascending, curved, quadratic_answer, view_quadratic};
 
 use crate::finite::{abs, within};
@@ -81,3 +81,9 @@ pub fn solve_quadratic_real(a: f64, b: f64, c: f64) -> Result<Quadratic, Refusal
         solve_curved(a, b, b * b - 4.0 * a * c)
     })
 }
+
+/// That the contract of `solve_quadratic_real`, which is on the roots as a list, leaves one answer.
+#[tactic(auto, using(crate::proofs::View::view_one))]
+pub fn one_answer()
+    ensures { OneAnswer view_quadratic }
+{}
