@@ -1,5 +1,4 @@
 -- The squares of a sheet's marks and of a form's are none of them negative. Assumes nothing.
-use lib.Ieee.{Float}
 use Rattle.sheet.specs.Distance as OfSheets
 use Rattle.sheet.specs.Sheets.{sheet}
 use Rattle.form.specs.Distance as OfForms

@@ -16,7 +16,7 @@ use judge::Call;
 use pick::{State, Tried};
 use records::RansacOptions;
 use rule::Refusal;
-pub use theorems::{calls_kept, demand_3, no_square_negative, old_bits};
+pub use theorems::{calls_kept, demand_3, families, no_square_negative, old_bits};
 
 /// The opening, by the options type.
 pub fn open<E: Estimator>(

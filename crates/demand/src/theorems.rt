@@ -1,4 +1,5 @@
 // The theorems, each the promise of a function that does nothing: so the crate isn't proved without it.
+ghost use Rattle.std.specs.Prelude.{◌≡◌};
 ghost use Rattle.sheet.specs.Sheets.{sheet};
 ghost use Rattle.form.specs.Forms.{form};
 ghost use Rattle.demand.specs.Demand.{CallsKept, Demand3};
@@ -6,6 +7,8 @@ ghost use Rattle.demand.specs.OldBits.{OldBits};
 ghost use Rattle.demand.specs.Signs.{NoneNegative};
 
 use estimator::Estimator;
+use form::Camera;
+use sheet::Sheet;
 
 /// What the demand says of calls, of any family.
 pub fn calls_kept<E: Estimator>()
@@ -28,4 +31,10 @@ pub fn old_bits()
 #[tactic(auto, using(crate::proofs::Signs::sheet_squares, crate::proofs::Signs::form_squares))]
 pub fn no_square_negative()
     ensures { NoneNegative sheet × NoneNegative form }
+{}
+
+/// That each family's own definitions are those that the theorems name.
+pub fn families()
+    ensures sheets { ⟦<Sheet as Estimator>⟧.family ≡ sheet }
+    ensures forms { ⟦<Camera as Estimator>⟧.family ≡ form }
 {}
