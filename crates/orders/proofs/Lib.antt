@@ -1,2 +1,3 @@
+pub mod Cases
 pub mod Shorter
 pub mod Told

@@ -19,13 +19,15 @@ use Rattle.numbers.specs.Constants.{farthest}
 use Rattle.numbers.specs.Ratio.{ratio}
 use Rattle.estimator.specs.Family.{Family, mark_at, distances_of}
 use Rattle.estimator.specs.Double.{doubled}
-use Rattle.estimator.specs.Marks.{all_within, shape, point, few, double, of_run, enough_tests, run_tests}
+use Rattle.estimator.specs.Marks.{all_within, shape, point, few, double, of_run, enough_tests, marks_tests, run_tests}
 use Rattle.estimator.proofs.Alone.{no_double, behind}
 use Rattle.estimator.proofs.Doubled.{front_within}
 use Rattle.sheet.specs.Sheets.{sheet}
 use Rattle.sheet.specs.Owed as Sheets
 use Rattle.form.specs.Forms.{form}
 use Rattle.form.specs.Owed as Forms
+use Rattle.linalg.specs.Normalize.{normalize_tests}
+use Rattle.linalg_3d.specs.Normalize.{normalize_tests as form_normalize_tests}
 use Rattle.homography.specs.Rows.{rows_tests}
 use Rattle.dlt.specs.Rows.{rows_tests as form_rows_tests}
 use Rattle.book.specs.Score.{Options, Standing, Judged, turned_down, few as few_within, scored, Trial, unfitted, fitted, refitted, count_under, standing, stands_of, judged_by, judge_trial}
@@ -42,7 +44,8 @@ use Rattle.pick.specs.Trial.{trial_answer}
 use Rattle.pick.specs.Indices.{marks_order, under_answer, winner_answer, indices_answer}
 use Rattle.form_records.specs.Camera.{camera_record, records_tests}
 use Rattle.salghemu.specs.Whole.{mark_bytes, order_of, later_tests, run_tests as whole_tests}
-use Rattle.orders.specs.ShortFirst.{now, before, stopped, short_and_doubled, Changed, is_none, ended, unheld, record_order, trial_order, indices_order, OfFamily, Order7}
+use Rattle.orders.specs.ShortFirst.{now, before, stopped, short_and_doubled, Changed, is_none, ended, unheld, record_order, trial_order, indices_order, OfFamily, Kept, Order7}
+use Rattle.orders.proofs.Cases.{cases}
 
 -- ---- by what the tests say
 
@@ -217,7 +220,7 @@ module _ {E M K : Type 0} (f : Family E M K) (w : ℕ) (counts : (l : List Float
       let numbers : f.mark_numbers m ≡ take w (drop (w * 0) l) = ap (λ k. f.mark_numbers (get_or k 0 f.no_mark)) (sym alone) ∙ placed l 0 (omega (arith, one)) in
       rw numbers (front_within w (drop (w * 0) l) (behind farthest (w * 0) l pass))
 
-  of_family : OfFamily f
+  pub of_family : OfFamily f
   unfolding now numbered run_tests enough_tests options_tests opening_tests call_tests marks_order record_order trial_order indices_order ended unheld options_record thresh confidence iters ratio shape of_run
   of_family =
       record {
@@ -228,6 +231,10 @@ module _ {E M K : Type 0} (f : Family E M K) (w : ℕ) (counts : (l : List Float
         indices = λ r marks places. changed f _ _ _ _ tt refl (own marks);
         indices_answers = indices_number f;
       }
+
+kept : Kept
+unfolding marks_tests normalize_tests form_normalize_tests
+kept = record { normalizing = λ marks side places. refl; form_normalizing = λ marks places. refl; line = λ marks. refl }
 
 pub order_7 : Order7
 unfolding now numbered run_tests enough_tests options_tests opening_tests options_record camera_record records_tests thresh confidence iters ratio shape mark_bytes order_of later_tests whole_tests rows_tests form_rows_tests
@@ -242,4 +249,6 @@ order_7 =
       whole_run = λ f winner indices. changed sheet _ _ _ _ tt refl (of_sheet (numbers_in 4 f.marks));
       rows = λ marks places. changed sheet _ _ _ _ tt refl (of_sheet marks);
       form_rows = λ marks places. changed form _ _ _ _ tt refl (of_form marks);
+      kept = kept;
+      cases = cases;
     }

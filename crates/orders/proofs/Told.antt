@@ -23,7 +23,7 @@ pub told_number : {A B : Type 0} (view : A → B) (r : Result A Refusal) (k : �
 told_number view (Ok a) k b h = sym (decided-gives k h).0
 told_number view (Err e) k b h = (decided-refused k b h).0
 
-answered_number : {A : Type 0} (r : Result A Refusal) (k : ℕ) (a : A) → answered r ≡ decided k a → refusal_in r ≡ k
+pub answered_number : {A : Type 0} (r : Result A Refusal) (k : ℕ) (a : A) → answered r ≡ decided k a → refusal_in r ≡ k
 answered_number (Ok b) k a h = sym (decided-gives k h).0
 answered_number (Err e) k a h = (decided-refused k a h).0
 

@@ -1,22 +1,26 @@
 -- Document 02, order 7: 'Short comes first wherever both are tested, doubled second, on one line third. The old answers that change are these: two or three sheet
 -- marks with a clashing pair go from 18 to 7, and two to five form marks likewise. Four or more marks all at one sheet position with unequal pixels still give
 -- 18 and not 13. 7 now precedes 18 in each order.' No other definition has the orders as they were. `proofs/Shorter.antt` proves `Order7`.
-use Rattle.std.specs.Prelude.{◌≡◌, Bool, true, false, ◌&&◌, List, [], ◌∷◌, ◌++◌, ℕ, ◌<◌, ◌≤◌, ◌*◌, length, Float}
+use Rattle.std.specs.Prelude.{◌≡◌, Bool, true, false, ◌&&◌, List, [], ◌∷◌, ◌++◌, map, ℕ, ◌<◌, ◌≤◌, ◌*◌, length, Float}
+use Rattle.std.specs.Float.{binary64}
+use Rattle.std.specs.Float.Ieee.{round}
 use Rattle.rule.specs.Refusal.{FEW, ENDED, NONE, DOUBLE}
 use Rattle.rule.specs.Order.{Test, first_failed, decided, room}
 use Rattle.rule.specs.Lists.{some}
 use Rattle.estimator.specs.Family.{Family}
-use Rattle.estimator.specs.Marks.{shape, point, few, double, of_run, entries}
-use Rattle.sheet.specs.Marks.{marks_of}
-use Rattle.sheet.specs.Sheets.{sheet}
+use Rattle.estimator.specs.Marks.{shape, point, few, double, of_run, entries, marks_tests}
+use Rattle.sheet.specs.Marks.{marks_of, points}
+use Rattle.sheet.specs.Sheets.{sheet, no_camera}
+use Rattle.sheet.specs.declared.marks.Side.{Side}
 use Rattle.form.specs.Marks.{marks_of as form_marks_of, points as form_points}
 use Rattle.form.specs.Forms.{form}
-use Rattle.linalg_3d.specs.Normalize.{spread}
+use Rattle.linalg.specs.Normalize.{spread, normalize_tests}
+use Rattle.linalg_3d.specs.Normalize.{spread as form_spread, normalize_tests as form_normalize_tests}
 use Rattle.homography.specs.Rows.{sheet_line, pixel_line, spreads, rows_tests}
 use Rattle.dlt.specs.Rows.{rows_tests as form_rows_tests}
 use Rattle.book.specs.Book.{Held, none, held}
 use Rattle.book.specs.Calls.{is_closed, number_in}
-use Rattle.records.specs.Options.{options_record, options_of, options_tests}
+use Rattle.records.specs.Options.{options_record, options_of, options_tests, usual_options}
 use Rattle.records.specs.Trial.{trial_record}
 use Rattle.records.specs.Marks.{numbers_in}
 use Rattle.records.specs.declared.options.RansacOptions.{RansacOptions}
@@ -107,6 +111,61 @@ module _ {E M K : Type 0} (f : Family E M K) where
     pub indices_answers : (r : Run E M) (marks : List Float) (entry : List ℕ)
         → (count : ℕ) × (indices_answer f r marks entry ≡ decided (first_failed (indices_order r marks (length entry))) count)
 
+-- ---- the entries that ask for no number of marks
+
+-- such an order: 5, 6 and 18, and then what the entry asks
+abbrev pub Without7 : {E M K : Type 0} → Family E M K → (marks : List Float) → (after order : List Test) → Type 0
+Without7 f marks after order = order ≡ shape f marks ∷ point marks ∷ double f marks ∷ after
+
+-- They are as they were: with no 7, nothing changes places with 18.
+pub record Kept : Type 0 where
+  -- normalising, of either side of a sheet's marks and of a form's
+  pub normalizing : (marks : List Float) (side : Side) (places : ℕ)
+      → Without7 sheet marks (spread (points side marks) ∷ room (2 * length (points side marks)) places ∷ []) (normalize_tests marks side places)
+  pub form_normalizing : (marks : List Float) (places : ℕ)
+      → Without7 form marks (form_spread (form_points marks) ∷ room (3 * length (form_points marks)) places ∷ []) (form_normalize_tests marks places)
+  -- the test for a line, of either side
+  pub line : (marks : List Float) → Without7 sheet marks [] (marks_tests sheet marks)
+
+-- ---- cases
+
+abbrev pub doubles : List ℕ → List Float
+doubles l = map (λ n. round binary64 false n 1) l
+
+-- of a sheet (x, y, u, v): two and four marks at one position, each with a pixel of its own
+abbrev pub two : List Float
+two = doubles (0 ∷ 0 ∷ 0 ∷ 0 ∷ 0 ∷ 0 ∷ 1 ∷ 0 ∷ [])
+
+abbrev pub four : List Float
+four = two ++ doubles (0 ∷ 0 ∷ 0 ∷ 1 ∷ 0 ∷ 0 ∷ 1 ∷ 1 ∷ [])
+
+-- of a form (x, y, z, u, v): five marks of which the first two clash, and six at one position
+abbrev pub five : List Float
+five = doubles (0 ∷ 0 ∷ 0 ∷ 0 ∷ 0 ∷ 0 ∷ 0 ∷ 0 ∷ 1 ∷ 0 ∷ 1 ∷ 0 ∷ 0 ∷ 2 ∷ 0 ∷ 0 ∷ 1 ∷ 0 ∷ 3 ∷ 0 ∷ 0 ∷ 0 ∷ 1 ∷ 4 ∷ 0 ∷ [])
+
+abbrev pub six : List Float
+six = doubles (0 ∷ 0 ∷ 0 ∷ 0 ∷ 0 ∷ 0 ∷ 0 ∷ 0 ∷ 1 ∷ 0 ∷ 0 ∷ 0 ∷ 0 ∷ 2 ∷ 0 ∷ 0 ∷ 0 ∷ 0 ∷ 3 ∷ 0 ∷ 0 ∷ 0 ∷ 0 ∷ 4 ∷ 0 ∷ 0 ∷ 0 ∷ 0 ∷ 5 ∷ 0 ∷ [])
+
+-- the options that are made of a threshold of 1
+abbrev pub usual : RansacOptions
+usual = usual_options (round binary64 false 1 1)
+
+-- an order with these tests ahead of 6, 7 and 18: what it answered, whatever it asked after them, and what it answers
+abbrev pub Went : {E M K : Type 0} → Family E M K → (ahead : List Test) → (marks : List Float) → (order : List Test) → (was is : ℕ) → Type 0
+Went f ahead marks order was is = ((after : List Test) → first_failed (before f ahead marks after) ≡ was) × (first_failed order ≡ is)
+
+pub record Cases : Type 0 where
+  -- two marks of a sheet that clash, 18 and now 7: of an opening that has nothing else against it, and of the rows, whatever their room is
+  pub opening_of_two : Went sheet (options_tests usual ++ (shape sheet two ∷ [])) two (opening_tests sheet no_camera usual two (0 ∷ 0 ∷ 0 ∷ [])) DOUBLE FEW
+  pub rows_of_two : (places : ℕ) → Went sheet (shape sheet two ∷ []) two (rows_tests two places) DOUBLE FEW
+  -- and five of a form
+  pub rows_of_five : (places : ℕ) → Went form (shape form five ∷ []) five (form_rows_tests five places) DOUBLE FEW
+  -- Four at one position of the sheet: 18 then and now, and not 13, which fails too. Six of a form: not 12, which fails too.
+  pub rows_of_four : (places : ℕ) → Went sheet (shape sheet four ∷ []) four (rows_tests four places) DOUBLE DOUBLE
+  pub four_on_a_line : (sheet_line four).fails ≡ true
+  pub rows_of_six : (places : ℕ) → Went form (shape form six ∷ []) six (form_rows_tests six places) DOUBLE DOUBLE
+  pub six_without_spread : (form_spread (form_points six)).fails ≡ true
+
 -- The openings, the rows and the whole run answer by these lists in their own definitions (`decided`, `after_tests`). The whole run's trials are judged over
 -- marks that have passed both.
 pub record Order7 : Type 0 where
@@ -128,4 +187,6 @@ pub record Order7 : Type 0 where
   pub rows : (marks : List Float) (places : ℕ)
       → Changed sheet (shape sheet marks ∷ []) marks (sheet_line marks ∷ pixel_line marks ∷ spreads marks ∷ room (18 * length (marks_of marks)) places ∷ []) (rows_tests marks places)
   pub form_rows : (marks : List Float) (places : ℕ)
-      → Changed form (shape form marks ∷ []) marks (spread (form_points marks) ∷ room (24 * length (form_marks_of marks)) places ∷ []) (form_rows_tests marks places)
+      → Changed form (shape form marks ∷ []) marks (form_spread (form_points marks) ∷ room (24 * length (form_marks_of marks)) places ∷ []) (form_rows_tests marks places)
+  pub kept : Kept
+  pub cases : Cases

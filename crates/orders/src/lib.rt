@@ -1,12 +1,17 @@
 // What a change of the refusals' order does to the answers: `specs/` has each order as it was and says which
-// calls are answered otherwise since, `proofs/Shorter.antt` proves it of every entry that has the tests in
-// question (document 02, order 7). The functions here only call through: each promises that it is refused
-// by the first test of its order that fails, so that a weaker contract of an entry breaks this crate.
+// calls are answered otherwise since, of every entry that has the tests in question, and that the others'
+// orders are as they were (document 02, order 7). The functions of theorems.rt promise that. Those here only
+// call through: each promises that it is refused by the first test of its order that fails, so that a weaker
+// contract of an entry breaks this crate.
 #![tactic(auto)]
 
 ghost use Rattle.std.specs.Prelude.{◌≡◌, length};
 ghost use Rattle.rule.specs.Answer.{refusal_in};
 ghost use Rattle.rule.specs.Order.{first_failed};
+ghost use Rattle.estimator.specs.Marks.{marks_tests};
+ghost use Rattle.sheet.specs.Sheets.{sheet};
+ghost use Rattle.linalg.specs.Normalize.{normalize_tests};
+ghost use Rattle.linalg_3d.specs.Normalize.{normalize_tests as form_normalize_tests};
 ghost use Rattle.judge.specs.Judging.{call_of};
 ghost use Rattle.book.specs.Calls.{number_in};
 ghost use Rattle.pick.specs.Run.{view_state, view_outcome};
@@ -17,12 +22,17 @@ ghost use Rattle.dlt.specs.Rows.{rows_tests as form_rows_tests};
 ghost use Rattle.salghemu.specs.Whole.{run_tests};
 ghost use Rattle.orders.specs.ShortFirst.{record_order, trial_order, indices_order, RefusedBy};
 
+mod theorems;
+
 use estimator::Estimator;
 use form::{Camera, Model};
 use judge::Call;
+use linalg::Normalized;
 use pick::{State, Tried};
 use records::RansacOptions;
 use rule::Refusal;
+use sheet::Points;
+pub use theorems::{order_7, order_7_of_family};
 
 #[tactic(auto, using(crate::proofs::Told::told_number), unfolding(pick::specs::Opening::opening_answer))]
 pub fn open<E: Estimator>(
@@ -103,4 +113,25 @@ pub fn form_rows(marks: &[f64], rows: &mut [f64]) -> Result<(), Refusal>
     ensures { refusal_in result ≡ first_failed (form_rows_tests marks.now (length rows.old)) }
 {
     dlt::dlt_rows(marks, rows)
+}
+
+#[tactic(auto, using(crate::proofs::Told::answered_number), unfolding(linalg::specs::Normalize::normalize_answer))]
+pub fn normalize(points: Points, lent: &mut [f64]) -> Result<Normalized, Refusal>
+    ensures { refusal_in result ≡ first_failed (normalize_tests points.entry.marks.now points.entry.side (length lent.old)) }
+{
+    linalg::normalize_points_2d(points, lent)
+}
+
+#[tactic(auto, using(crate::proofs::Told::answered_number), unfolding(linalg_3d::specs::Normalize::normalize_answer))]
+pub fn form_normalize(marks: &[f64], lent: &mut [f64]) -> Result<linalg_3d::Normalized, Refusal>
+    ensures { refusal_in result ≡ first_failed (form_normalize_tests marks.now (length lent.old)) }
+{
+    linalg_3d::normalize_points_3d(marks, lent)
+}
+
+#[tactic(auto, using(crate::proofs::Told::answered_number), unfolding(line::specs::Collinear::collinear_answer))]
+pub fn collinear(points: Points) -> Result<bool, Refusal>
+    ensures { refusal_in result ≡ first_failed (marks_tests sheet points.entry.marks.now) }
+{
+    line::points_are_collinear(points)
 }
