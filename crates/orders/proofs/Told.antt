@@ -24,8 +24,8 @@ told_number view (Ok a) k b h = sym (decided-gives k h).0
 told_number view (Err e) k b h = (decided-refused k b h).0
 
 pub answered_number : {A : Type 0} (r : Result A Refusal) (k : ℕ) (a : A) → answered r ≡ decided k a → refusal_in r ≡ k
-answered_number (Ok b) k a h = sym (decided-gives k h).0
-answered_number (Err e) k a h = (decided-refused k a h).0
+answered_number (Ok b) = told_number (λ a. a) (Ok b)
+answered_number (Err e) = told_number (λ a. a) (Err e)
 
 module _ {E M K : Type 0} (f : Family E M K) (r : Run E M) where
   pub trial_refused : (c : Call) (t : Tried E M) → view_tried t ≡ trial_answer f r c → number_in (view_outcome t.outcome) ≡ first_failed (trial_order f r c)

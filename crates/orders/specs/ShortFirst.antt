@@ -129,6 +129,7 @@ pub record Kept : Type 0 where
 
 -- ---- cases
 
+-- whole numbers as doubles
 abbrev pub doubles : List ℕ → List Float
 doubles l = map (λ n. round binary64 false n 1) l
 
@@ -155,7 +156,7 @@ abbrev pub Went : {E M K : Type 0} → Family E M K → (ahead : List Test) → 
 Went f ahead marks order was is = ((after : List Test) → first_failed (before f ahead marks after) ≡ was) × (first_failed order ≡ is)
 
 pub record Cases : Type 0 where
-  -- two marks of a sheet that clash, 18 and now 7: of an opening that has nothing else against it, and of the rows, whatever their room is
+  -- two marks of a sheet that clash, 18 and now 7: of an opening with accepted options and a stop entry more than marks, and of the rows, whatever their room is
   pub opening_of_two : Went sheet (options_tests usual ++ (shape sheet two ∷ [])) two (opening_tests sheet no_camera usual two (0 ∷ 0 ∷ 0 ∷ [])) DOUBLE FEW
   pub rows_of_two : (places : ℕ) → Went sheet (shape sheet two ∷ []) two (rows_tests two places) DOUBLE FEW
   -- and five of a form

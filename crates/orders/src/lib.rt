@@ -88,7 +88,7 @@ pub fn winner_indices<E: Estimator>(
     pick::winner_indices(s, marks, indices)
 }
 
-// Where none of these tests fails, the trials decide: a refused one, or that none wins.
+/// Where none of these tests fails, the trials decide: a refused one, or that none wins.
 #[tactic(auto, using(crate::proofs::Told::run_refused))]
 pub fn run(
     options: &[u8],
