@@ -1,7 +1,7 @@
 -- Document 02, order 7: 'Short comes first wherever both are tested, doubled second, on one line third. The old answers that change are these: two or three sheet
 -- marks with a clashing pair go from 18 to 7, and two to five form marks likewise. Four or more marks all at one sheet position with unequal pixels still give
 -- 18 and not 13. 7 now precedes 18 in each order.' No other definition has the orders as they were. `proofs/Shorter.antt` proves `Order7`.
-use Rattle.std.specs.Prelude.{◌≡◌, Bool, true, false, ◌&&◌, List, [], ◌∷◌, ◌++◌, map, ℕ, ◌<◌, ◌≤◌, ◌*◌, length, Float}
+use Rattle.std.specs.Prelude.{◌≡◌, Bool, true, false, ◌&&◌, List, [], ◌∷◌, ◌++◌, ℕ, ◌<◌, ◌≤◌, ◌*◌, length, Float}
 use Rattle.std.specs.Float.{binary64}
 use Rattle.std.specs.Float.Ieee.{round}
 use Rattle.rule.specs.Refusal.{FEW, ENDED, NONE, DOUBLE}
@@ -129,37 +129,43 @@ pub record Kept : Type 0 where
 
 -- ---- cases
 
--- whole numbers as doubles
-abbrev pub doubles : List ℕ → List Float
-doubles l = map (λ n. round binary64 false n 1) l
+abbrev double_of : ℕ → Float
+double_of n = round binary64 false n 1
 
--- of a sheet (x, y, u, v): two and four marks at one position, each with a pixel of its own
+-- the numbers of a mark of a sheet, and of a form
+abbrev pub on_sheet : (x y u v : ℕ) → List Float
+on_sheet x y u v = double_of x ∷ double_of y ∷ double_of u ∷ double_of v ∷ []
+
+abbrev pub on_form : (x y z u v : ℕ) → List Float
+on_form x y z u v = double_of x ∷ double_of y ∷ double_of z ∷ double_of u ∷ double_of v ∷ []
+
+-- of a sheet: two and four marks at one position, each with a pixel of its own
 abbrev pub two : List Float
-two = doubles (0 ∷ 0 ∷ 0 ∷ 0 ∷ 0 ∷ 0 ∷ 1 ∷ 0 ∷ [])
+two = on_sheet 0 0 0 0 ++ on_sheet 0 0 1 0
 
 abbrev pub four : List Float
-four = two ++ doubles (0 ∷ 0 ∷ 0 ∷ 1 ∷ 0 ∷ 0 ∷ 1 ∷ 1 ∷ [])
+four = two ++ on_sheet 0 0 0 1 ++ on_sheet 0 0 1 1
 
--- of a form (x, y, z, u, v): five marks of which the first two clash, and six at one position
+-- of a form: five marks of which the first two clash, and six at one position
 abbrev pub five : List Float
-five = doubles (0 ∷ 0 ∷ 0 ∷ 0 ∷ 0 ∷ 0 ∷ 0 ∷ 0 ∷ 1 ∷ 0 ∷ 1 ∷ 0 ∷ 0 ∷ 2 ∷ 0 ∷ 0 ∷ 1 ∷ 0 ∷ 3 ∷ 0 ∷ 0 ∷ 0 ∷ 1 ∷ 4 ∷ 0 ∷ [])
+five = on_form 0 0 0 0 0 ++ on_form 0 0 0 1 0 ++ on_form 1 0 0 2 0 ++ on_form 0 1 0 3 0 ++ on_form 0 0 1 4 0
 
 abbrev pub six : List Float
-six = doubles (0 ∷ 0 ∷ 0 ∷ 0 ∷ 0 ∷ 0 ∷ 0 ∷ 0 ∷ 1 ∷ 0 ∷ 0 ∷ 0 ∷ 0 ∷ 2 ∷ 0 ∷ 0 ∷ 0 ∷ 0 ∷ 3 ∷ 0 ∷ 0 ∷ 0 ∷ 0 ∷ 4 ∷ 0 ∷ 0 ∷ 0 ∷ 0 ∷ 5 ∷ 0 ∷ [])
+six = on_form 0 0 0 0 0 ++ on_form 0 0 0 1 0 ++ on_form 0 0 0 2 0 ++ on_form 0 0 0 3 0 ++ on_form 0 0 0 4 0 ++ on_form 0 0 0 5 0
 
 -- the options that are made of a threshold of 1
 abbrev pub usual : RansacOptions
-usual = usual_options (round binary64 false 1 1)
+usual = usual_options (double_of 1)
 
 -- an order with these tests ahead of 6, 7 and 18: what it answered, whatever it asked after them, and what it answers
 abbrev pub Went : {E M K : Type 0} → Family E M K → (ahead : List Test) → (marks : List Float) → (order : List Test) → (was is : ℕ) → Type 0
 Went f ahead marks order was is = ((after : List Test) → first_failed (before f ahead marks after) ≡ was) × (first_failed order ≡ is)
 
 pub record Cases : Type 0 where
-  -- two marks of a sheet that clash, 18 and now 7: of an opening with accepted options and a stop entry more than marks, and of the rows, whatever their room is
+  -- Two marks of a sheet that clash, 18 and now 7: of an opening with accepted options and a stop entry more than marks, and of the rows.
   pub opening_of_two : Went sheet (options_tests usual ++ (shape sheet two ∷ [])) two (opening_tests sheet no_camera usual two (0 ∷ 0 ∷ 0 ∷ [])) DOUBLE FEW
   pub rows_of_two : (places : ℕ) → Went sheet (shape sheet two ∷ []) two (rows_tests two places) DOUBLE FEW
-  -- and five of a form
+  -- Five of a form, of which two clash, likewise.
   pub rows_of_five : (places : ℕ) → Went form (shape form five ∷ []) five (form_rows_tests five places) DOUBLE FEW
   -- Four at one position of the sheet: 18 then and now, and not 13, which fails too. Six of a form: not 12, which fails too.
   pub rows_of_four : (places : ℕ) → Went sheet (shape sheet four ∷ []) four (rows_tests four places) DOUBLE DOUBLE
