@@ -1,10 +1,8 @@
 -- The cases of `Order7`, each by computing its definitions. Assumes nothing.
 use mathlib.Core.Path.{refl}
-use lib.Count.{count_leading_zeros}
-use lib.Ieee.{round, of_bits, to_bits, neg, add, sub, mul, div, lt, eq, le, of_int}
+use lib.Ieee.{round, of_bits, add, sub, mul, div, lt, eq, le, of_int}
 use Rattle.rule.specs.Order.{first_failed}
-use Rattle.root.specs.Digits.{taken, one_more, after_digits, whole_root}
-use Rattle.root.specs.Root.{significand, exponent, shift_of, shift, scaled, height, root_bits, has_root, root_of}
+use Rattle.root.specs.Root.{root_of}
 use Rattle.numbers.specs.Finite.{abs_of, is_finite, within}
 use Rattle.numbers.specs.Ratio.{ratio_accepted, ratio}
 use Rattle.estimator.specs.Double.{position, pixel, clash, doubled}
@@ -21,7 +19,7 @@ use Rattle.pick.specs.Opening.{opening_tests}
 use Rattle.orders.specs.ShortFirst.{before, Cases}
 
 pub cases : Cases
-unfolding round of_bits to_bits neg add sub mul div lt eq le of_int count_leading_zeros first_failed taken one_more after_digits whole_root significand exponent shift_of shift scaled height root_bits has_root root_of abs_of is_finite within ratio_accepted ratio position pixel clash doubled all_within shape point few double enough_tests run_tests marks_of mark_numbers point_of points squared_apart form_marks_of form_mark_numbers form_point_of form_points mean centroid_of form_squared_apart mean_distance no_spread spread apart straight collinear sheet_line rows_tests form_rows_tests usual_options options_tests thresh confidence iters opening_tests before
+unfolding round of_bits add sub mul div lt eq le of_int first_failed root_of abs_of is_finite within ratio_accepted ratio position pixel clash doubled all_within shape point few double enough_tests run_tests marks_of mark_numbers point_of points squared_apart form_marks_of form_mark_numbers form_point_of form_points mean centroid_of form_squared_apart mean_distance no_spread spread apart straight collinear sheet_line rows_tests form_rows_tests usual_options options_tests thresh confidence iters opening_tests before
 cases =
     record {
       opening_of_two = (λ after. refl, refl);
