@@ -1,9 +1,7 @@
--- `within_and_beyond`: the number beyond and the count within the threshold never exceed the number of marks together, where the threshold is finite. (A mark that
--- is beyond is infinitely far, so an infinite threshold has it within.) Of one model, whichever the family; and so, `few_and_beyond`, of
--- the answer few, whose count is the fit's own. Assumes nothing.
+-- The marks beyond and those within the threshold: of one model, whichever the family, and of the answer few, whose count is the fit's own. Assumes nothing.
 use mathlib.Core.Path.{◌≡◌, refl}
 use mathlib.Core.Bool.{Bool, true, false, cond}
-use mathlib.Core.List.{List, [], ◌∷◌, map}
+use mathlib.Core.List.{List, [], ◌∷◌}
 use Prim.Native.Nat.{ℕ, suc, ◌+◌, ◌≤◌, zero-le}
 use native.Mathlib.Omega.{arith}
 use lib.Dec.{ltb}
@@ -15,6 +13,7 @@ use Rattle.numbers.specs.Constants.{infinity}
 use Rattle.numbers.specs.Finite.{is_finite}
 use Rattle.numbers.specs.Measure.{Measure, beyond, distance, is_beyond, as_distance}
 use Rattle.book.specs.Score.{Options, Trial, unfitted, fitted, refitted, close, count_in, few, scored, beyond_fit, count_under, standing, judged_by, stands_of, judge_trial}
+use Rattle.book.specs.Beyond.{far_in, distances_in, WithinAndBeyond}
 
 infinitely_far : (thresh : Float) → is_finite thresh ≡ true → close thresh infinity ≡ false
 unfolding is_finite close le lt eq of_bits
@@ -32,10 +31,10 @@ module _ {A : Type 0} (measure : A → Measure) (thresh : Float) (finite : is_fi
       go true = omega (arith, h)
       go false = omega (arith, h)
 
-  pub within_and_beyond : (l : List A) → count_of (λ a. is_beyond (measure a)) l + count_in thresh (map (λ a. as_distance (measure a)) l) ≤ length l
+  pub under_one : (l : List A) → far_in measure l + count_in thresh (distances_in measure l) ≤ length l
   unfolding count_of count_in
-  within_and_beyond [] = zero-le
-  within_and_beyond (a ∷ l) = one_more (measure a) (count_of (λ a. is_beyond (measure a)) l) (count_of (close thresh) (map (λ a. as_distance (measure a)) l)) (length l) (within_and_beyond l)
+  under_one [] = zero-le
+  under_one (a ∷ l) = one_more (measure a) (far_in measure l) (count_in thresh (distances_in measure l)) (length l) (under_one l)
 
 -- ---- the same of a trial's answer: few, and the number beyond
 
@@ -58,3 +57,9 @@ module _ {M : Type 0} (o : Options) (distances : M → List Float) (stops : List
     few_and_beyond unfitted k e = cc
     few_and_beyond (fitted fit) k e = with_few fit fit k e
     few_and_beyond (refitted fit refit) k e = with_few fit (stands_of o distances stops fit refit) k e
+
+pub within_and_beyond : {A M : Type 0} → WithinAndBeyond A M
+within_and_beyond = record {
+  of_model = under_one;
+  of_few = λ measure o stops finite marks. few_and_beyond o (λ m. distances_in (measure m) marks) stops (λ m. far_in (measure m) marks) (length marks) (λ m. under_one (measure m) o.thresh finite marks);
+}

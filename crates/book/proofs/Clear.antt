@@ -1,7 +1,7 @@
 -- A float is clear where it is no NaN and its sign is clear. Squares of what is no NaN are, and sums, the division by a count and the root keep it: so the
 -- root mean square of any distances within a threshold is no NaN. Assumes nothing.
 use mathlib.Core.Path.{◌≡◌, refl}
-use mathlib.Core.Bool.{Bool, true, false, not, ◌||◌, cond}
+use mathlib.Core.Bool.{Bool, true, false, ◌||◌, cond}
 use mathlib.Core.List.{List, [], ◌∷◌}
 use Prim.Native.Nat.{ℕ, zero, suc, ◌+◌, ◌*◌, ◌^◌, ◌≤◌}
 use native.Mathlib.Nat.{le_trans, zero-lt-suc}
@@ -21,13 +21,13 @@ use Rattle.rule.proofs.Lists.{count_most}
 use Rattle.root.specs.Root.{has_root, root_of}
 use Rattle.root.proofs.Correct.{root_correct}
 use Rattle.numbers.specs.Constants.{zero'}
-use Rattle.book.specs.Score.{close, count_in, square, squares_in, rms_of, rms_in}
+use Rattle.book.specs.Score.{close, count_in, square, squares_in, rms_of, rms_in, RmsNotNan}
 
-pub clear_not_nan : (x : Float) → T (clear x) → T (not (is_nan x))
+pub clear_not_nan : (x : Float) → T (clear x) → is_nan x ≡ false
 unfolding clear is_nan
 clear_not_nan nan c = absurd c
-clear_not_nan (inf s) c = tt
-clear_not_nan (fin s m e) c = tt
+clear_not_nan (inf s) c = refl
+clear_not_nan (fin s m e) c = refl
 
 pub clear-has_root : (x : Float) → T (clear x) → T (has_root x)
 unfolding clear has_root
@@ -180,15 +180,16 @@ rms_of_lem zero squares h c = tt
 rms_of_lem (suc n) squares h c =
     rw (eqb-suc-zero n) (root-clear (squares ⊘ of_int binary64 (pos (suc n))) (div-fits binary64 _ _) (div_clear squares (of_int binary64 (pos (suc n))) c (count_positive n h)))
 
+pub rms_number : (count : ℕ) (thresh : Float) (ds : List Float) → count ≤ 2 ^ 53 → is_nan (rms_of count (squares_in thresh ds)) ≡ false
+rms_number count thresh ds h = clear_not_nan (rms_of count (squares_in thresh ds)) (rms_of_lem count (squares_in thresh ds) h (sum_clear thresh ds))
+
 pub count-within : (thresh : Float) (ds : List Float) → count_in thresh ds ≤ length ds
 unfolding count_in
 count-within thresh ds = count_most (close thresh) ds
 
--- Of any distances, whatever the threshold. Only a list of some 2 ^ 1024 of them, whose number has no finite double, could have a NaN: 2 ^ 53 is
--- far above what a program can hold.
 pub rms-clear : (thresh : Float) (ds : List Float) → length ds ≤ 2 ^ 53 → T (clear (rms_in thresh ds))
 unfolding rms_in
 rms-clear thresh ds h = rms_of_lem (count_in thresh ds) (squares_in thresh ds) (le_trans (count-within thresh ds) h) (sum_clear thresh ds)
 
-pub rms_not_nan : (thresh : Float) (ds : List Float) → length ds ≤ 2 ^ 53 → T (not (is_nan (rms_in thresh ds)))
+pub rms_not_nan : RmsNotNan
 rms_not_nan thresh ds h = clear_not_nan (rms_in thresh ds) (rms-clear thresh ds h)

@@ -1,7 +1,7 @@
 -- Demand 3, for any family of states, calls and answers.
 --
--- `picking_rule`: after any list of calls from an opening, each handed the state that the last gave back, every answer, and the state's winner, counts and
--- bound, are those of document 01's book; trials read = empty + few + scored; and the winner is the best of the scored trials that the answers show.
+-- `picking_rule`: of the book alone, whatever the calls come to. `kept_along`: after any list of calls from an opening, each handed the state that the last gave
+-- back, every answer, and the state's winner, counts and bound, are the book's, so the rule holds of them.
 -- `winner_has`: what every scored trial with the right marks and stops has, the book's winner has; its count and rms are its model's own (`judge_own`).
 -- `callable`: where every call has an answer, every list of calls has its answers, and a state at the end.
 -- `run_exact`: the whole run reads exactly to the bound, the end, or a trial refused before either.
@@ -23,7 +23,7 @@ use Rattle.rule.specs.Refusal.{ENDED}
 use Rattle.book.specs.Score.{Options, Trial, unfitted, fitted, refitted, count_in, rms_in, Standing, Judged, turned_down, empty, few, scored, Judgement, count_under, standing, judged_by, stands_of, judge_trial}
 use Rattle.book.specs.Book.{Winner, Held, none, held, Book, Answer, is_refused, is_won, is_held, beats, winner_after, scored_answer, entered, has_ended, called, fresh, book_after, outcomes_of, answers_of}
 use Rattle.book.specs.Calls.{is_closed, tried, Called, no_call, then, is_refusal, Carried}
-use Rattle.book.specs.Rule.{Kept, Stopped, stopped, broken, run_over, ReadTo}
+use Rattle.book.specs.Rule.{Among, first, later, Kept, PickingRule, Stopped, stopped, broken, run_over, RunExact}
 use Rattle.book.proofs.Clear.{rms-clear}
 use Rattle.book.proofs.Along.{called_open, Counts, counts_fresh, counts_next, counts_after, same_end, tried-called, ClearCall, ClearCalls, picked_after}
 
@@ -52,10 +52,7 @@ module _ {M : Type 0} (o : Options) (distances : M → List Float) (stops : List
   pub judge_clear : ((m : M) → length (distances m) ≤ 2 ^ 53) → (t : Trial M) (s : Standing M) → judge_trial o distances stops t ≡ scored s → T (clear s.rms)
   judge_clear short t s e = rw (judge_own t s e).1 (rms-clear o.thresh (distances s.model) (short s.model))
 
--- ---- a list of calls
-
-same_answer : {x y : Answer} → x.outcome ≡ y.outcome → x.beyond ≡ y.beyond → x ≡ y
-same_answer p q = ap₂ (λ k n. record { outcome = k; beyond = n }) p q
+-- ---- a list of calls, by the book
 
 -- the outcomes of the answers are the book's outcomes
 pub outcomes_of_lem : {C M : Type 0} (o : Options) (judge : C → Judgement M) (b : Book M) (cs : List C)
@@ -63,6 +60,32 @@ pub outcomes_of_lem : {C M : Type 0} (o : Options) (judge : C → Judgement M) (
 unfolding answers_of outcomes_of
 outcomes_of_lem o judge b [] = refl
 outcomes_of_lem o judge b (c ∷ cs) = rw (outcomes_of_lem o judge (called o b (judge c).worth).book cs)
+
+clear-call : {M : Type 0} (j : Judged M) → ((s : Standing M) → j ≡ scored s → T (clear s.rms)) → ClearCall j
+clear-call (turned_down k) h = tt
+clear-call empty h = tt
+clear-call (few count) h = tt
+clear-call (scored s) h = h s refl
+
+clear_calls : {C M : Type 0} (judge : C → Judgement M) (cs : List C) → ((c : C) → Among c cs → (s : Standing M) → (judge c).worth ≡ scored s → T (clear s.rms))
+    → ClearCalls (map (λ c. (judge c).worth) cs)
+clear_calls judge [] h = tt
+clear_calls judge (c ∷ cs) h = (clear-call (judge c).worth (h c first), clear_calls judge cs (λ d p. h d (later p)))
+
+pub picking_rule : {C M : Type 0} → PickingRule C M
+picking_rule {C} o judge cs clears =
+    let worths = map (λ (c : C). (judge c).worth) cs in
+    record {
+      answered = refl;
+      booked = refl;
+      counted = (counts_after o worths (fresh o) (counts_fresh o)).counted;
+      picked = rw (outcomes_of_lem o judge (fresh o) cs) (picked_after o worths (clear_calls judge cs clears));
+    }
+
+-- ---- a list of calls, by states
+
+same_answer : {x y : Answer} → x.outcome ≡ y.outcome → x.beyond ≡ y.beyond → x ≡ y
+same_answer p q = ap₂ (λ k n. record { outcome = k; beyond = n }) p q
 
 module _ {S C A M : Type 0} (Tried : S → C → S → A → Type 0) (book : S → Book M) (view : A → Answer) (o : Options) (judge : C → Judgement M)
     (Run : S → Type 0)
@@ -100,31 +123,13 @@ module _ {S C A M : Type 0} (Tried : S → C → S → A → Type 0) (book : S �
           let k' : Counts o (book t) = subst (Counts o) (sym b) (counts_next o (book s) (worth c) k) in
           followed s t z c a cs rest b g (follow n.0 k' more)
 
-      module _ (clear-rms : (c : C) (s : Standing M) → (judge c).worth ≡ scored s → T (clear s.rms)) where
-        clear-call : (c : C) (j : Judged M) → (judge c).worth ≡ j → ClearCall j
-        clear-call c (turned_down k) e = tt
-        clear-call c empty e = tt
-        clear-call c (few count) e = tt
-        clear-call c (scored s) e = clear-rms c s e
-
-        clear_calls : (cs : List C) → ClearCalls (map worth cs)
-        clear_calls [] = tt
-        clear_calls (c ∷ cs) = (clear-call c (worth c) refl, clear_calls cs)
-
-        pub picking_rule : (s₀ z : S) (cs : List C) (answers : List A) → Run s₀ → book s₀ ≡ fresh o → Called Tried s₀ cs answers z
-            → Run z × Kept o judge cs (map view answers) (book z)
-        picking_rule s₀ z cs answers run opened calls =
-            let f = follow run (rw opened (counts_fresh o)) calls in
-            let b : book z ≡ book_after o (fresh o) (map worth cs) = f.booked ∙ ap (λ x. book_after o x (map worth cs)) opened in
-            let g : map view answers ≡ answers_of o (fresh o) (map judge cs) = f.answered ∙ ap (λ x. answers_of o x (map judge cs)) opened in (
-              f.runs,
-              record {
-                answered = g;
-                booked = b;
-                counted = rw b (counts_after o (map worth cs) (fresh o) (counts_fresh o)).counted;
-                picked = rw (b, g, outcomes_of_lem o judge (fresh o) cs) (picked_after o (map worth cs) (clear_calls cs));
-              },
-            )
+      pub kept_along : ((c : C) (s : Standing M) → (judge c).worth ≡ scored s → T (clear s.rms)) → (s₀ z : S) (cs : List C) (answers : List A) → Run s₀ → book s₀ ≡ fresh o
+          → Called Tried s₀ cs answers z → Run z × Kept o judge cs (map view answers) (book z)
+      kept_along clear-rms s₀ z cs answers run opened calls =
+          let f = follow run (rw opened (counts_fresh o)) calls in
+          let b : book z ≡ book_after o (fresh o) (map worth cs) = f.booked ∙ ap (λ x. book_after o x (map worth cs)) opened in
+          let g : map view answers ≡ answers_of o (fresh o) (map judge cs) = f.answered ∙ ap (λ x. answers_of o x (map judge cs)) opened in
+          (f.runs, rw (b, g) (picking_rule o judge cs (λ c p. clear-rms c)))
 
 -- ---- where every call has an answer, every list of calls has its answers
 
@@ -246,5 +251,5 @@ module _ {M : Type 0} (o : Options) where
   exact_from (few count ∷ js) b = read_on b (few count) js refl (exact_from js (entered o b (few count)).book)
   exact_from (scored s ∷ js) b = read_on b (scored s) js (scored-accepted s b.winner) (exact_from js (entered o b (scored s)).book)
 
-  pub run_exact : (calls : List (Judged M)) → (read : ℕ) × ReadTo o calls (run_over o (fresh o) calls) read
-  run_exact calls = let e = exact_from calls (fresh o) in (e.0, record { inside = e.1.inside; accepted = e.1.accepted; ends = e.1.ends })
+pub run_exact : {M : Type 0} → RunExact M
+run_exact o calls = let e = exact_from o calls (fresh o) in (e.0, record { inside = e.1.inside; accepted = e.1.accepted; ends = e.1.ends })

@@ -1,8 +1,9 @@
--- Demand 3, in terms of the book: what holds after a list of calls, and of a whole run. `proofs/Picked.antt` proves both.
+-- Demand 3, in terms of the book: what holds after a list of calls, and of a whole run. `picking_rule` and `run_exact` of src/ promise both.
 use Rattle.std.specs.Prelude.{◌≡◌, ◌⊎◌, true, false, not, cond, List, [], ◌∷◌, map, ℕ, suc, ◌+◌, ◌≤◌, ◌<◌, T, length, get_or, take, Float}
 use Rattle.std.specs.Float.Ieee.{le, eq}
+use Rattle.rule.specs.Arith.{clear}
 use Rattle.rule.specs.Lists.{every}
-use Rattle.book.specs.Score.{Options, Judged, turned_down, empty, few, scored, Judgement}
+use Rattle.book.specs.Score.{Options, Standing, Judged, turned_down, empty, few, scored, Judgement}
 use Rattle.book.specs.Book.{Winner, Held, none, held, Book, Outcome, Answer, is_refused, is_empty, is_few, is_held, is_won, entered, has_ended, fresh, book_after, outcomes_of, answers_of}
 use Rattle.book.specs.Calls.{is_refusal}
 
@@ -59,6 +60,13 @@ pub record Kept {C M : Type 0} (o : Options) (judge : C → Judgement M) (calls 
   -- 'The winner's count of marks is the largest', and what follows it
   pub picked : Picks b.winner (scores_in 0 (map (λ a. a.outcome) answers))
 
+-- The rule, of the book alone: whatever the calls are and whatever each comes to, the answers that the book gives and the book that they leave are so. It asks
+-- that no root mean square that is scored among them is a NaN or has its sign set.
+abbrev pub PickingRule : (C M : Type 0) → Type 0
+PickingRule C M =
+    (o : Options) (judge : C → Judgement M) (calls : List C) → ((c : C) → Among c calls → (s : Standing M) → (judge c).worth ≡ scored s → T (clear s.rms))
+    → Kept o judge calls (answers_of o (fresh o) (map judge calls)) (book_after o (fresh o) (map (λ c. (judge c).worth) calls))
+
 -- ---- the whole run
 
 -- it stopped with the book as it is then, or at a refused trial
@@ -83,3 +91,7 @@ module _ {M : Type 0} where
     pub ends :
         (((has_ended (book_after o (fresh o) (take read calls)) ≡ true) ⊎ (read ≡ length calls)) × (result ≡ stopped (book_after o (fresh o) (take read calls))))
         ⊎ ((has_ended (book_after o (fresh o) (take read calls)) ≡ false) × (read < length calls) × ((k : ℕ) × ((get_or calls read empty ≡ turned_down k) × (result ≡ broken k))))
+
+-- The run over any list reads just so far.
+abbrev pub RunExact : (M : Type 0) → Type 0
+RunExact M = (o : Options) (calls : List (Judged M)) → (read : ℕ) × ReadTo o calls (run_over o (fresh o) calls) read

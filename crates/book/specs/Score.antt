@@ -1,8 +1,8 @@
 -- Document 01, 'Trials', and document 02, order 2: what a trial's record is worth, seen from the distances of the marks under a model alone, and how many marks
 -- are beyond under its fit. Nothing here knows the model, the mark or the distance.
-use Rattle.std.specs.Prelude.{Bool, cond, ◌&&◌, List, ℕ, ltb, leb, eqb, pos, get_or, Float}
+use Rattle.std.specs.Prelude.{◌≡◌, Bool, false, cond, ◌&&◌, List, ℕ, ◌^◌, ◌≤◌, ltb, leb, eqb, pos, length, get_or, Float}
 use Rattle.std.specs.Float.{binary64}
-use Rattle.std.specs.Float.Ieee.{le, of_int}
+use Rattle.std.specs.Float.Ieee.{is_nan, le, of_int}
 use Rattle.rule.specs.Arith.{◌⊗◌, ◌⊘◌}
 use Rattle.rule.specs.Lists.{count_of, sum_from, those}
 use Rattle.root.specs.Root.{root_of}
@@ -43,6 +43,10 @@ rms_of count squares = cond (eqb count 0) infinity (root_of (squares ⊘ of_int 
 
 unfoldable pub rms_in : Float → List Float → Float
 rms_in thresh ds = rms_of (count_in thresh ds) (squares_in thresh ds)
+
+-- It is never a NaN, whatever the distances and the threshold are. (It could be one only where the count has no finite double; no program holds 2 ^ 53 marks.)
+abbrev pub RmsNotNan : Type 0
+RmsNotNan = (thresh : Float) (ds : List Float) → length ds ≤ 2 ^ 53 → is_nan (rms_in thresh ds) ≡ false
 
 -- ---- a trial
 

@@ -20,7 +20,7 @@ use Rattle.book.specs.Score.{close, count_in, rms_in, Standing, scored}
 use Rattle.book.specs.Book.{Winner, held, Book, Entered, fresh, book_after}
 use Rattle.book.specs.Calls.{is_closed, tried, Called}
 use Rattle.book.specs.Rule.{Kept}
-use Rattle.book.proofs.Picked.{judge_own, judge_clear, picking_rule, callable, winner_has}
+use Rattle.book.proofs.Picked.{judge_own, judge_clear, kept_along, callable, winner_has}
 use Rattle.records.specs.Options.{options_record, options_of}
 use Rattle.records.specs.Trial.{trial_of}
 use Rattle.records.specs.declared.options.RansacOptions.{RansacOptions}
@@ -191,7 +191,7 @@ module _ {E M K : Type 0} (f : Family E M K) (w : ℕ) (wide : 4 ≤ w) (counts 
     -- ---- after a list of calls
 
     pub after_list : (s : State E M) (calls : List Call) (answers : List Told) → Called (Tried f) s₀ calls answers s → Of s × Kept (rule_of o) (judgement_of f e o n) calls (map view_told answers) (book_of s)
-    after_list s calls answers chain = picking_rule (Tried f) book_of view_told (rule_of o) (judgement_of f e o n) Of step small clear-rms s₀ s calls answers of_opened fresh_opened chain
+    after_list s calls answers chain = kept_along (Tried f) book_of view_told (rule_of o) (judgement_of f e o n) Of step small clear-rms s₀ s calls answers of_opened fresh_opened chain
 
     own_of : (c : Call) → Carries marks stops c → (t : Standing M) → judge_of f e o n c ≡ scored t
         → (t.count ≡ count_in o.thresh (distances_of f e o.ratio marks t.model)) × (t.rms ≡ rms_in o.thresh (distances_of f e o.ratio marks t.model))
