@@ -9,7 +9,8 @@
 mod limits;
 mod sum;
 
-ghost use Rattle.std.specs.Prelude.{◌≡◌, map};
+ghost use Rattle.std.specs.Prelude.{◌≡◌, false, map};
+ghost use Rattle.std.specs.Float.Ieee.{is_nan};
 ghost use Rattle.root.specs.Root.{root_of};
 ghost use Rattle.book.specs.Score.{count_in, squares_in, rms_of};
 ghost use Rattle.score.specs.Places.{index_count, indexed};
@@ -51,10 +52,12 @@ fn sum_squares(limits: Limits, squares: &[f64]) -> f64
     sum.all(limits.thresh)
 }
 
-// The root mean square of the roots within the threshold, by their number; infinite where that is 0.
+// The root mean square of the roots within the threshold, by their number; infinite where that is 0, and
+// never a NaN.
 #[tactic(auto, unfolding(book::specs::Score::rms_of))]
 pub fn rms(thresh: f64, squares: &[f64], count: u32) -> f64
-    ensures { result ≡ rms_of count (squares_in thresh (map root_of squares.now)) }
+    ensures value { result ≡ rms_of count (squares_in thresh (map root_of squares.now)) }
+    ensures number { is_nan result ≡ false }
 {
     if count == 0 {
         return f64::INFINITY;
