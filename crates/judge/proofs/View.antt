@@ -1,16 +1,13 @@
 -- The views of an answer can be taken back, so they tell any two answers apart, and the contracts fix the answer. Assumes nothing.
 use mathlib.Core.Path.{◌≡◌, refl, sym, ap₂, ◌∙◌}
 use Prim.Native.Nat.{ℕ}
-use lib.Ieee.{Float}
 use Rattle.std.specs.Prelude.{Result, Ok, Err}
 use Rattle.rule.specs.declared.Refusal.{Refusal}
 use Rattle.rule.specs.Answer.{Answer, refused, gives, told}
 use Rattle.rule.proofs.Views.{told_one}
 use Rattle.book.specs.Score as Score
-use Rattle.judge.specs.Judging.{judged_as, answer_as, beyond_in, standing_of, supported, view_finding, view_verdict}
+use Rattle.judge.specs.Judging.{judged_as, answer_as, beyond_in, standing_of, supported, OneJudgement}
 use Rattle.judge.specs.declared.Judgement.{Judgement}
-use Rattle.judge.specs.declared.Standing.{Standing}
-use Rattle.judge.specs.declared.Support.{Support}
 use Rattle.judge.specs.declared.Verdict.{Verdict}
 use Rattle.judge.specs.declared.Verdict.TheVariants.{Empty, Few, Scored}
 
@@ -53,12 +50,12 @@ module _ {S M : Type 0} (view : S → Score.Standing M) (back : Score.Standing M
       go (Few count) = refl
       go (Scored s) = refl
 
-  pub answer_one : (x y : Result (Judgement S) Refusal) → answer_as view x ≡ answer_as view y → beyond_in x ≡ beyond_in y → x ≡ y
-  answer_one x y h b = told_one both judgement_of judgement_back x y (told_is x ∙ ap₂ told_by h b ∙ sym (told_is y))
+  one : (x y : Result (Judgement S) Refusal) → answer_as view x ≡ answer_as view y → beyond_in x ≡ beyond_in y → x ≡ y
+  one x y h b = told_one both judgement_of judgement_back x y (told_is x ∙ ap₂ told_by h b ∙ sym (told_is y))
 
-pub verdict_one : {M : Type 0} (x y : Result (Judgement (Standing M)) Refusal) → view_verdict x ≡ view_verdict y → beyond_in x ≡ beyond_in y → x ≡ y
+pub answer_one : {M : Type 0} → OneJudgement M
 unfolding standing_of
-verdict_one = answer_one standing_of (λ s. record { support = record { model = s.model; count = s.count; stop = s.stop }; rms = s.rms }) (λ s. refl)
-
-pub finding_one : {M : Type 0} (rms : M → Float) (x y : Result (Judgement (Support M)) Refusal) → view_finding rms x ≡ view_finding rms y → beyond_in x ≡ beyond_in y → x ≡ y
-finding_one rms = answer_one (supported rms) (λ s. record { model = s.model; count = s.count; stop = s.stop }) (λ s. refl)
+answer_one = record {
+  verdict = one standing_of (λ s. record { support = record { model = s.model; count = s.count; stop = s.stop }; rms = s.rms }) (λ s. refl);
+  finding = λ rms. one (supported rms) (λ s. record { model = s.model; count = s.count; stop = s.stop }) (λ s. refl);
+}

@@ -1,6 +1,6 @@
 -- Document 01, 'Trials': a call of a run (a record, marks, stops), its tests but for 10, and what it comes to by itself, before the book is looked at. For any
 -- family, by E's value.
-use Rattle.std.specs.Prelude.{cond, List, [], ◌∷◌, ◌++◌, map, ℕ, ltb, Float, Result, Ok, Err}
+use Rattle.std.specs.Prelude.{◌≡◌, cond, List, [], ◌∷◌, ◌++◌, map, ℕ, ltb, Float, Result, Ok, Err}
 use Rattle.rule.specs.Refusal.{number_of}
 use Rattle.rule.specs.declared.Refusal.{Refusal}
 use Rattle.rule.specs.Lists.{filled}
@@ -129,3 +129,8 @@ view_finding rms r = answer_as (supported rms) r
 -- Where the distances' squares are known it can be worked out.
 unfoldable pub support_with : {M : Type 0} → Float → (squares : List Float) → Support M → Score.Standing M
 support_with thresh squares s = with_rms (rms_of s.count (squares_in thresh (map root_of squares))) s
+
+-- Two answers of which these say the same are the same: so the contracts by them leave one answer.
+pub record OneJudgement (M : Type 0) : Type 0 where
+  pub verdict : (x y : Result (CodeJudgement (Standing M)) Refusal) → view_verdict x ≡ view_verdict y → beyond_in x ≡ beyond_in y → x ≡ y
+  pub finding : (rms : M → Float) (x y : Result (CodeJudgement (Support M)) Refusal) → view_finding rms x ≡ view_finding rms y → beyond_in x ≡ beyond_in y → x ≡ y

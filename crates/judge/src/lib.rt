@@ -5,6 +5,7 @@
 #![tactic(auto)]
 
 mod run;
+mod theorems;
 
 ghost use Rattle.std.specs.Prelude.{◌≡◌, ◌≤◌, OnOk, length};
 ghost use Rattle.rule.specs.Answer.{refusal_in};
@@ -18,6 +19,7 @@ use crate::run::Run;
 use estimator::Estimator;
 use records::RansacOptions;
 use rule::Refusal;
+pub use theorems::{marks_within_and_beyond, one_answer};
 
 // A trial's record, and the marks and stop entries of its run.
 #[derive(Clone, Copy)]
