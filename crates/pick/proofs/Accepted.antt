@@ -1,5 +1,4 @@
--- What an accepted opening promises of the calls after it, with the same marks: `steps_as_trial`, that a call without tests 6 and 18 (`step`) answers as one
--- with them (`trial`) does, on every state; and `indices-written`, that the indices of a winner that is held are written where there is a place a mark. Assumes nothing.
+-- What an accepted opening promises of the calls after it, with the same marks: its tests of them pass then too. Assumes nothing.
 use mathlib.Core.Path.{◌≡◌, refl, sym, ap, ap₂, ◌∙◌}
 use mathlib.Core.List.{List, []}
 use Prim.Native.Nat.{ℕ, ◌≤◌}
@@ -25,6 +24,7 @@ use Rattle.pick.specs.Run.{view_best, view_state}
 use Rattle.pick.specs.Opening.{opening_tests, opening_answer}
 use Rattle.pick.specs.Trial.{tried_with, trial_answer, step_answer}
 use Rattle.pick.specs.Indices.{marks_order, under_answer, winner_answer, indices_answer}
+use Rattle.pick.specs.Accepted.{AfterOpening}
 use Rattle.pick.specs.declared.run_state.State.{State}
 use Rattle.pick.proofs.Order.{tested, none_left}
 
@@ -64,8 +64,14 @@ module _ {E M K : Type 0} (f : Family E M K) (e : E) (o : RansacOptions) (l : Li
         ∙ all_passed (run_tests f l) _ (run_numbered f l) accepted
         ∙ passes (of_run f n l) _ (rw (k, eq-eqb (length (f.marks_of l)) (length (f.marks_of l)) refl))
 
-    pub indices-written : (s : State E M) → s.n ≡ length (f.marks_of l) → (w : Winner M) → view_best s.winner ≡ held w → (entry : List ℕ) → length (f.marks_of l) ≤ length entry
+    indices_written : (s : State E M) → s.n ≡ length (f.marks_of l) → (w : Winner M) → view_best s.winner ≡ held w → (entry : List ℕ) → length (f.marks_of l) ≤ length entry
         → indices_answer f (view_state s) l entry ≡ gives (length (indices_in s.options.thresh (distances_of f s.estimator s.options.ratio l w.model)))
     unfolding indices_answer winner_answer under_answer
-    indices-written s n w holds entry room_for =
+    indices_written s n w holds entry room_for =
         rw holds (sym (decided-none (length (indices_in s.options.thresh (distances_of f s.estimator s.options.ratio l w.model))) (order_passes s.n (length entry) n room_for)))
+
+pub after_opening : {E M K : Type 0} (f : Family E M K) → AfterOpening f
+after_opening f = record {
+  steps_as_trial = λ e o l table opened. steps_as_trial f e o l table opened.0 opened.1;
+  indices_written = λ e o l table opened. indices_written f e o l table opened.0 opened.1;
+}

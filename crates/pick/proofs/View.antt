@@ -14,7 +14,7 @@ use Rattle.std.specs.Prelude.{Option, Some, None, Result, Ok, Err}
 use Rattle.rule.specs.declared.Refusal.{Refusal}
 use Rattle.rule.specs.declared.Refusal.TheVariants as Refusals
 use Rattle.rule.specs.Refusal.{number_of}
-use Rattle.rule.specs.Answer.{Answer as Answering, refused, gives, told, answered}
+use Rattle.rule.specs.Answer.{Answer as Answering, refused, gives, answered}
 use Rattle.rule.specs.Order.{Test, first_failed, if_passed}
 use Rattle.rule.proofs.Views.{told_apart, told_one, answered_one}
 use Rattle.estimator.specs.Family.{Family}
@@ -27,7 +27,7 @@ use Rattle.book.specs.Calls.{is_closed, tried}
 use Rattle.records.specs.Trial.{trial_record, trial_of}
 use Rattle.records.specs.declared.options.RansacOptions.{RansacOptions}
 use Rattle.judge.specs.Judging.{rule_of, Call, call_tests, worth, judged_by as byTests, judge_of}
-use Rattle.pick.specs.Run.{Run, view_best, view_state, view_outcome, view_tried}
+use Rattle.pick.specs.Run.{Run, view_best, view_state, view_outcome, view_tried, OneState}
 use Rattle.pick.specs.Trial.{trial_answer}
 use Rattle.pick.specs.declared.run_state.Winner.{Winner}
 use Rattle.pick.specs.declared.run_state.State.{State}
@@ -51,9 +51,6 @@ unfolding best_of
 best_there Book.none = refl
 best_there (Book.held w) = refl
 
-pub best_one : {M : Type 0} (x y : Option (Winner M)) → view_best x ≡ view_best y → x ≡ y
-best_one = told_apart view_best best_of best_back
-
 -- ---- the state
 
 state_of : {E M : Type 0} → Run E M → State E M
@@ -74,16 +71,13 @@ state_there : {E M : Type 0} (r : Run E M) → view_state (state_of r) ≡ r
 unfolding state_of
 state_there r = rw (best_there r.book.winner)
 
-pub state_one : {E M : Type 0} (x y : State E M) → view_state x ≡ view_state y → x ≡ y
+state_one : {E M : Type 0} (x y : State E M) → view_state x ≡ view_state y → x ≡ y
 state_one = told_apart view_state state_of state_back
 
 pub state_onto : {E M : Type 0} (r : Run E M) → (s : State E M) × (view_state s ≡ r)
 state_onto r = (state_of r, state_there r)
 
--- ---- the opening's answer, the next state's and the indices'
-
-pub state_told_one : {E M : Type 0} (x y : Result (State E M) Refusal) → told view_state x ≡ told view_state y → x ≡ y
-state_told_one = told_one view_state state_of state_back
+-- ---- the indices' answer
 
 pub indexed-one : (x y : Result ℕ Refusal) → answered x ≡ answered y → x ≡ y
 indexed-one = answered_one
@@ -129,15 +123,20 @@ answers (Outcomes.Few k) = refl
 answers (Outcomes.Held k q) = refl
 answers (Outcomes.Won k q) = refl
 
-pub outcome-one : (x y : Outcome) → view_outcome x ≡ view_outcome y → x ≡ y
+outcome-one : (x y : Outcome) → view_outcome x ≡ view_outcome y → x ≡ y
 outcome-one x y h = told_apart apart outcome_of outcome_back x y (answered_one (apart x) (apart y) (answers x ∙ ap answering h ∙ sym (answers y)))
 
-pub tried-one : {E M : Type 0} (x y : Tried E M) → view_tried x ≡ view_tried y → x ≡ y
+-- ---- a trial's answer, and all of them
+
+tried-one : {E M : Type 0} (x y : Tried E M) → view_tried x ≡ view_tried y → x ≡ y
 tried-one x y h =
     let s : x.state ≡ y.state = state_one x.state y.state (ap (λ a. a.run) h) in
     let o : x.outcome ≡ y.outcome = outcome-one x.outcome y.outcome (ap (λ a. a.outcome) h) in
     let k : x.beyond ≡ y.beyond = ap (λ a. a.beyond) h in
     λ i. record { state = s i; outcome = o i; beyond = k i }
+
+pub answer_one : {E M : Type 0} → OneState E M
+answer_one = record { state = state_one; given = told_one view_state state_of state_back; tried = tried-one }
 
 -- ---- each answer that a trial's contract asks for can be had
 

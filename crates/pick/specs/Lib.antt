@@ -2,3 +2,4 @@ pub mod Run
 pub mod Opening
 pub mod Trial
 pub mod Indices
+pub mod Accepted

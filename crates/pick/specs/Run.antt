@@ -1,7 +1,8 @@
 -- The run state, seen as what document 01 says of it: the opening's options and n, and what it has of the book; and what the family's marks are measured by
 -- (document 02, order 5: the opening's camera). A view for each enum gives 01's cases.
-use Rattle.std.specs.Prelude.{ℕ, Option, Some, None}
+use Rattle.std.specs.Prelude.{◌≡◌, ℕ, Option, Some, None}
 use Rattle.rule.specs.Refusal.{number_of}
+use Rattle.rule.specs.Answer.{OneAnswer}
 use Rattle.book.specs.Book as Book
 use Rattle.book.specs.Book.{Held, none, held, Book, Outcome, is_refused, is_empty, is_few, is_held, is_won}
 use Rattle.records.specs.declared.options.RansacOptions.{RansacOptions}
@@ -58,3 +59,9 @@ pub record Answer (E M : Type 0) : Type 0 where
 
 abbrev pub view_tried : {E M : Type 0} → Tried E M → Answer E M
 view_tried t = record { run = view_state t.state; outcome = view_outcome t.outcome; beyond = t.beyond }
+
+-- Two states, or two answers, of which these views say the same are the same: so the contracts by them leave one answer.
+pub record OneState (E M : Type 0) : Type 0 where
+  pub state : (x y : State E M) → view_state x ≡ view_state y → x ≡ y
+  pub given : OneAnswer {A = State E M} view_state
+  pub tried : (x y : Tried E M) → view_tried x ≡ view_tried y → x ≡ y

@@ -7,10 +7,12 @@ mod before_end;
 mod indices;
 mod opening;
 mod run_state;
+mod theorems;
 mod trials;
 
 pub use advancing::advance;
 pub use indices::winner_indices;
 pub use opening::{fresh_run, open, open_record};
 pub use run_state::{Outcome, State, Tried, Winner};
+pub use theorems::{after_opening, one_answer};
 pub use trials::{step, trial};

@@ -45,7 +45,7 @@ fn print_indices(rt: &impl Print, indices: &[u32]) -> io::Result<()> {
 }
 
 // The lines of a winner that is held. The indices are never refused here: the marks are those of the
-// opening, and there is a place for each (`indices-written` of crates/pick/proofs/Accepted.antt).
+// opening, and there is a place for each (`after_opening` of `pick` promises that).
 #[tactic(auto, using(std::proofs::lemmas::Grind::common_steps, pick::proofs::Written::count_inside))]
 fn print_held(
     rt: &impl Print,
