@@ -3,11 +3,11 @@
 use mathlib.Core.Path.{◌≡◌, refl, sym, ap, ap₂, subst, ◌∙◌}
 use mathlib.Core.Bool.{Bool, true, false, not, ◌&&◌}
 use mathlib.Core.List.{List, [], ◌∷◌, ◌++◌, map, append-nil}
-use Prim.Native.Nat.{ℕ, ◌*◌, ◌/◌, ◌%◌, ◌≤◌}
+use Prim.Native.Nat.{ℕ, ◌*◌, ◌/◌, ◌%◌}
 use native.Mathlib.Omega.{arith}
 use borrow.Author.Tests.{eq-eqb, ne_eqb}
 use lib.Dec.{T, eqb}
-use lib.ListN.{length, get_or, drop, replicate, length-map, length-replicate}
+use lib.ListN.{length, get_or, replicate, length-map, length-replicate}
 use lib.Ieee.{Float, binary64, fits, of_bits, to_bits}
 use lib.Ieee.Fits.{and_i, and_l, and_r}
 use Rattle.rule.specs.Refusal.{RECORD}
@@ -20,7 +20,7 @@ use Rattle.rule.proofs.Tests.{clash}
 use Rattle.numbers.specs.Constants.{one, farthest}
 use Rattle.numbers.specs.Finite.{all_finite}
 use Rattle.estimator.specs.Family.{Family}
-use Rattle.estimator.specs.Marks.{point, shape, all_within, entries, marks_tests, run_tests}
+use Rattle.estimator.specs.Marks.{point, shape, entries, marks_tests, run_tests}
 use Rattle.estimator.proofs.Alone.{one_mark}
 use Rattle.sheet.specs.Marks.{marks_of, mark_numbers, no_mark, mark_at}
 use Rattle.sheet.specs.Sheets.{sheet}
@@ -37,8 +37,9 @@ use Rattle.records.proofs.Placed.{short_size, options_size}
 use Rattle.records.proofs.Short.{completed_size, short_formed, short_options}
 use Rattle.records.proofs.Whole.{numbers-length, numbers-whole}
 use Rattle.pick.specs.Opening.{opening_tests, fresh_run, opening_answer, record_answer}
-use Rattle.writer.specs.Format.{sized, reads, as_numbers, numbers_read, record_of, writer_answer, written}
+use Rattle.writer.specs.Format.{sized, reads, as_numbers, numbers_read, record_of}
 use Rattle.writer.specs.Formats.{options_numbers, options_asked, options_format, mark_layout, mark_from, mark_format, trial_format}
+use Rattle.writer.specs.Readers.{OptionsReader, ShortMade, TrialReader, MarkReader}
 use Rattle.writer.proofs.Bits.{numbers_back, fields_fit, bits_again, bits-written}
 use Rattle.writer.proofs.OfMark.{mark_size, packs, four, within_finite}
 use Rattle.writer.proofs.OfOptions.{options_faithful}
@@ -78,29 +79,30 @@ module _ (l : List ℕ) where
     abbrev rest : List Test
     rest = run_tests f marks ++ (entries f marks stops ∷ f.tests e)
 
-    pub opening_refuses : (length l ≡ 32 → ⊥) → (k : ℕ) → reads options_format l ≡ refused k → refused k ≡ record_answer f e l marks stops
+    opening_refuses : (length l ≡ 32 → ⊥) → (k : ℕ) → reads options_format l ≡ refused k → record_answer f e l marks stops ≡ refused k
     unfolding record_answer opening_tests
     opening_refuses long k h =
         let d = decided-refused (first_failed asked) o (sym h ∙ options-tests long) in
         let failed : k ≡ first_failed (asked ++ rest) = d.0 ∙ one_failed asked rest d.1 in
-        ap refused failed ∙ decided_some (first_failed (asked ++ rest)) _ (λ z. d.1 (sym d.0 ∙ failed ∙ z))
+        sym (ap refused failed ∙ decided_some (first_failed (asked ++ rest)) _ (λ z. d.1 (sym d.0 ∙ failed ∙ z)))
 
-    pub opening-reads : (p : RansacOptions) → reads options_format l ≡ gives p → record_answer f e l marks stops ≡ opening_answer f e p marks stops
+    opening-reads : (p : RansacOptions) → reads options_format l ≡ gives p → record_answer f e l marks stops ≡ opening_answer f e p marks stops
     unfolding record_answer opening_answer options_record
     opening-reads p h =
         let d = decided-gives (first_failed asked) (sym h ∙ options-tests (not_short p h)) in
         let formed = (first_passed (options_record l) (options_tests o) tt d.0).0 in
         ap (λ k. decided k (fresh_run e o (length (f.marks_of marks)))) (sym (passes (options_record l) (opening_tests f e o marks stops) formed)) ∙ ap (λ q. opening_answer f e q marks stops) (sym d.1)
 
-  -- ---- a record of 32 bytes
+pub options_reader : {E M K : Type 0} (f : Family E M K) → OptionsReader f
+unfolding record_answer options_record
+options_reader f = record {
+  refuses = λ l. opening_refuses l f;
+  opens = λ l. opening-reads l f;
+  completes = λ l size e marks stops. rw (short_formed l size, short_options l size);
+}
 
-  module _ (size : length l ≡ 32) where
-    -- the opening reads it as the one of 40 that has 1 behind it
-    pub opening_completes : {E M K : Type 0} (f : Family E M K) (e : E) (marks : List Float) (stops : List ℕ) → record_answer f e l marks stops ≡ record_answer f e (completed l) marks stops
-    unfolding record_answer options_record
-    opening_completes f e marks stops = rw (short_formed l size, short_options l size)
+-- ---- a record of 32 bytes: the one of 40 that it stands for
 
--- and that one is what the writer makes of its numbers
 module _ (l : List ℕ) (size : length l ≡ 32) (bytes : T (all_bytes l)) (accepted : first_failed (options_record l ∷ options_tests (options_of l)) ≡ 0) where
   completed-bytes : T (all_bytes (completed l))
   unfolding completed all_bytes double_bytes bytes_of to_bits of_bits
@@ -113,16 +115,17 @@ module _ (l : List ℕ) (size : length l ≡ 32) (bytes : T (all_bytes l)) (acce
       let none : first_failed (options_record (completed l) ∷ options_tests (options_of (completed l))) ≡ 0 = rw (← short_formed l size, ← short_options l size) accepted in
       ap (as_numbers options_numbers) (options-tests (completed l) long ∙ sym (decided-none (options_of (completed l)) (sym none))) ∙ ap (λ q. gives (options_numbers q)) (sym (short_options l size))
 
-  pub short_made : (entry : List ℕ) → 40 ≤ length entry
-      → (writer_answer options_format (options_numbers (options_of l)) entry ≡ 0) × (written options_format (options_numbers (options_of l)) entry ≡ completed l ++ drop 40 entry)
-  unfolding options_format
-  short_made entry room = rw (← completed_size l size) (options_faithful.made (completed l) (options_numbers (options_of l)) entry completed-bytes completed-read (rw options_size room))
+pub short_made : ShortMade
+unfolding options_format
+short_made l size bytes accepted entry room =
+    rw (← completed_size l size)
+    (options_faithful.made (completed l) (options_numbers (options_of l)) entry (completed-bytes l size bytes accepted) (completed-read l size bytes accepted) (rw options_size room))
 
 -- ---- a trial
 
-pub trial-reads : (l : List ℕ) → reads trial_format l ≡ trial_answer sheet l
+pub trial_reader : TrialReader
 unfolding reads sized trial_format trial_answer trial_record trial_formed trial_of
-trial-reads l = ap (λ k. decided k (trial_from sheet (unpacked (trial_layout 9) l))) (two_as_one (eqb (length l) (size_of (trial_layout 9))) (trial_sound 9 (unpacked (trial_layout 9) l)) RECORD [])
+trial_reader l = ap (λ k. decided k (trial_from sheet (unpacked (trial_layout 9) l))) (two_as_one (eqb (length l) (size_of (trial_layout 9))) (trial_sound 9 (unpacked (trial_layout 9) l)) RECORD [])
 
 -- ---- marks
 
@@ -163,7 +166,7 @@ module _ (l : List ℕ) (size : length l ≡ 32) where
       ∙ ap (λ xs. first_failed (marks_tests sheet xs)) (sym numbers_in_lem)
 
   -- a file of one mark is read and tested as the format has it
-  pub mark_reads : reads mark_format l ≡ decided (first_failed (marks_tests sheet (numbers_in 4 l))) (mark_at (numbers_in 4 l) 0)
+  mark_reads : reads mark_format l ≡ decided (first_failed (marks_tests sheet (numbers_in 4 l))) (mark_at (numbers_in 4 l) 0)
   unfolding reads mark_format mark_at
   mark_reads = ap₂ (λ k m. decided k m) mark_tests (ap (λ ms. get_or ms 0 no_mark) (sym mark_is))
 
@@ -235,19 +238,18 @@ held-numbers (m ∷ ms) t =
     subst T (sym (every_append (fits binary64) (mark_numbers m) (for_each mark_numbers ms)))
     (and_i (every (fits binary64) (mark_numbers m)) (every (fits binary64) (for_each mark_numbers ms)) (and_l (every (fits binary64) (mark_numbers m)) _ t) (held-numbers ms (and_r (every (fits binary64) (mark_numbers m)) _ t)))
 
--- marks that are written one after the other are the marks of the file
-pub marks-written : (ms : List Mark) → T (every (λ m. every (fits binary64) (mark_numbers m)) ms) → marks_of (numbers_in 4 (for_each (record_of mark_format) ms)) ≡ ms
-marks-written ms t =
-    let numbers = for_each mark_numbers ms in
-    let wide : length (for_each double_bytes numbers) ≡ 8 * (4 * length ms) = for_each-length double_bytes 8 double_wide numbers ∙ ap (λ n. 8 * n) (numbers_wide ms) in
-    let read : numbers_in 4 (for_each double_bytes numbers) ≡ numbers =
-    numbers-whole 4 (for_each double_bytes numbers) (rw wide (omega arith)) ∙ doubles_back (length numbers) numbers refl (held-numbers ms t)
-    in
-    ap (λ l. marks_of (numbers_in 4 l)) (records_are ms) ∙ ap marks_of read ∙ marks_again ms
-
--- and a file of accepted marks is what is written for its marks
-pub marks-made : (l : List ℕ) → T (all_bytes l) → length l % 32 ≡ 0 → all_within farthest (numbers_in 4 l) ≡ true → for_each (record_of mark_format) (marks_of (numbers_in 4 l)) ≡ l
-marks-made l t h w =
-    records_are (marks_of (numbers_in 4 l))
-    ∙ ap (for_each double_bytes) (marks_back (numbers_in 4 l) (rw (numbers-length 4 l) (omega arith)) ∙ numbers-whole 4 l h)
-    ∙ doubles_again (length l / 8) l (omega (arith, h)) t (ap all_finite (sym (numbers-whole 4 l h)) ∙ within_finite farthest (numbers_in 4 l) w)
+pub mark_reader : MarkReader
+mark_reader = record {
+  one = mark_reads;
+  back = λ ms t.
+      let numbers = for_each mark_numbers ms in
+      let wide : length (for_each double_bytes numbers) ≡ 8 * (4 * length ms) = for_each-length double_bytes 8 double_wide numbers ∙ ap (λ n. 8 * n) (numbers_wide ms) in
+      let read : numbers_in 4 (for_each double_bytes numbers) ≡ numbers =
+      numbers-whole 4 (for_each double_bytes numbers) (rw wide (omega arith)) ∙ doubles_back (length numbers) numbers refl (held-numbers ms t)
+      in
+      ap (λ l. marks_of (numbers_in 4 l)) (records_are ms) ∙ ap marks_of read ∙ marks_again ms;
+  made = λ l t h w.
+      records_are (marks_of (numbers_in 4 l))
+      ∙ ap (for_each double_bytes) (marks_back (numbers_in 4 l) (rw (numbers-length 4 l) (omega arith)) ∙ numbers-whole 4 l h)
+      ∙ doubles_again (length l / 8) l (omega (arith, h)) t (ap all_finite (sym (numbers-whole 4 l h)) ∙ within_finite farthest (numbers_in 4 l) w);
+}

@@ -1,2 +1,3 @@
 pub mod Format
 pub mod Formats
+pub mod Readers

@@ -5,8 +5,13 @@
 
 mod mark;
 mod options;
+mod theorems;
 mod trial;
 
 pub use mark::write_mark;
 pub use options::write_options;
+pub use theorems::{
+    mark_faithful, mark_reader, options_faithful, options_reader, short_made, trial_faithful,
+    trial_reader,
+};
 pub use trial::write_trial;
