@@ -1,16 +1,11 @@
--- What the readers answer is fixed by a contract on its view: a view tells any two answers apart. Assumes nothing.
+-- What the reader of a trial answers is fixed by a contract on its view: the view tells any two answers apart. Assumes nothing.
 use mathlib.Core.Path.{◌≡◌, refl}
-use Rattle.std.specs.Prelude.{Result, Option, Some, None}
-use Rattle.rule.specs.Answer.{told, answered}
-use Rattle.rule.specs.declared.Refusal.{Refusal}
-use Rattle.rule.proofs.Views.{told_one, answered_one}
+use Rattle.std.specs.Prelude.{Option, Some, None}
+use Rattle.rule.specs.Answer.{OneAnswer}
+use Rattle.rule.proofs.Views.{told_one}
 use Rattle.book.specs.Score.{Trial, unfitted, fitted, refitted}
 use Rattle.records.specs.Trial.{refitted_by, view_recorded}
-use Rattle.records.specs.declared.options.RansacOptions.{RansacOptions}
 use Rattle.records.specs.declared.trial.Fitted.{Fitted}
-
-pub options-one : (x y : Result RansacOptions Refusal) → answered x ≡ answered y → x ≡ y
-options-one = answered_one
 
 module _ {M : Type 0} where
   recorded_of : Trial M → Option (Fitted M)
@@ -27,5 +22,5 @@ module _ {M : Type 0} where
       go None = refl
       go (Some n) = refl
 
-  pub recorded_one : (x y : Result (Option (Fitted M)) Refusal) → told view_recorded x ≡ told view_recorded y → x ≡ y
+  pub recorded_one : OneAnswer (view_recorded {M = M})
   recorded_one = told_one view_recorded recorded_of recorded_back

@@ -8,4 +8,4 @@ mod trial;
 
 pub use marks::read_marks;
 pub use options::{RansacOptions, marked, read_options, validate};
-pub use trial::{Fitted, marks_formed, parts_formed, read_trial};
+pub use trial::{Fitted, marks_formed, one_answer, parts_formed, read_trial};

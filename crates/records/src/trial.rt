@@ -1,7 +1,7 @@
 // One trial as the fitter records it (document 01, 'Trials', and document 02, order 5): a fit and perhaps
 // its refit, or none.
 ghost use Rattle.std.specs.Prelude.{◌≡◌};
-ghost use Rattle.rule.specs.Answer.{told};
+ghost use Rattle.rule.specs.Answer.{told, OneAnswer};
 ghost use Rattle.records.specs.Trial.{marks_formed, parts_formed, trial_answer, view_recorded};
 
 use estimator::Estimator;
@@ -55,3 +55,9 @@ pub fn read_trial<E: Estimator>(bytes: &[u8]) -> Result<Option<Fitted<E::Model>>
     };
     Ok((fit_mark == 1).then_some(fitted))
 }
+
+/// That the contract on what the answer of `read_trial` stands for leaves one answer.
+#[tactic(auto, using(crate::proofs::View::recorded_one))]
+pub fn one_answer<M>()
+    ensures { OneAnswer (view_recorded {M = M}) }
+{}
