@@ -36,7 +36,7 @@ use Rattle.fields.specs.Fields.{words_of}
 use Rattle.fields.proofs.Reading.{words_count}
 use Rattle.records.specs.Options.{options_record, options_of, options_tests}
 use Rattle.records.proofs.Formed.{options_above_0}
-use Rattle.records.specs.Marks.{numbers_in}
+use Rattle.records.specs.Marks.{mark_bytes, numbers_in}
 use Rattle.records.specs.declared.options.RansacOptions.{RansacOptions}
 use Rattle.records.proofs.Whole.{numbers-length}
 use Rattle.score.specs.Places.{indices_in}
@@ -45,7 +45,7 @@ use Rattle.pick.specs.Run.{view_best, book_of, view_outcome}
 use Rattle.pick.specs.Opening.{opening_tests}
 use Rattle.pick.specs.declared.run_state.State.{State}
 use Rattle.pick.proofs.Order.{none_left}
-use Rattle.salghemu.specs.Whole.{Files, mark_bytes, stop_bytes, later_tests, order_of, run_tests, records_in, call_with, calls_of, judged_in, stop_of, won_by, result_of, after_tests, run_answer, number_of, index_bytes, laid_over, written, Gave}
+use Rattle.salghemu.specs.Whole.{Files, stop_bytes, later_tests, order_of, run_tests, records_in, call_with, calls_of, judged_in, stop_of, won_by, result_of, after_tests, run_answer, number_of, index_bytes, laid_over, written, Gave}
 use Rattle.demand.specs.Demand.{Opening, Told, view_told, Tried, Refuses, GivesOf, CalledAlike, AfterRun, by_tests, by_trials}
 use Rattle.demand.proofs.Listed.{opening-accepted, after_list, given_as, calls_answered}
 
@@ -78,7 +78,7 @@ module _ (f : Files) (winner indices : ℕ) (all : first_failed (run_tests f win
   fine =
       let r = first_passed (options_record f.options) _ tt all in
       let options = none_failed (options_tests o) _ r.1 in
-      let d = first_passed (mark_bytes f.marks) _ tt (all_passed (options_tests o) _ (options_above_0 o) options ∙ r.1) in
+      let d = first_passed (mark_bytes 4 f.marks) _ tt (all_passed (options_tests o) _ (options_above_0 o) options ∙ r.1) in
       let m = neither (not (eqb (length f.marks % 32) 0)) (ltb 64000 (length f.marks)) d.0 in
       let e = none_failed (enough_tests sheet l) _ d.1 in
       let h = first_passed (stop_bytes n (length f.stops)) _ tt (all_passed (enough_tests sheet l) _ (enough_numbered sheet l) e ∙ d.1) in

@@ -24,14 +24,14 @@ use Rattle.fields.specs.Fields.{bytes_of}
 use Rattle.fields.specs.Packing.{unpacked}
 use Rattle.records.specs.Options.{short_layout, options_sound, options_from, options_answer, options_of, usual_options, thresh, confidence, iters}
 use Rattle.records.specs.Trial.{trial_of}
-use Rattle.records.specs.Marks.{numbers_in}
+use Rattle.records.specs.Marks.{mark_bytes, numbers_in}
 use Rattle.records.specs.declared.options.RansacOptions.{RansacOptions}
 use Rattle.score.specs.Places.{indices_in}
 use Rattle.judge.specs.Judging.{rule_of, Call, call_tests, beyond_by, judgement_of}
 use Rattle.pick.specs.Run.{book_of}
 use Rattle.pick.specs.Opening.{opening_tests}
 use Rattle.pick.specs.declared.run_state.State.{State}
-use Rattle.salghemu.specs.Whole.{Files, mark_bytes, later_tests, calls_of, result_of, after_tests, number_of, winner_bytes, written}
+use Rattle.salghemu.specs.Whole.{Files, later_tests, calls_of, result_of, after_tests, number_of, winner_bytes, written}
 use Rattle.demand.specs.Demand.{Told, view_told, Tried, Opening, CarriedBy, Ran}
 
 -- ---- before the ratio
@@ -74,7 +74,7 @@ module _ (f : Files) where
 
   unfoldable pub old_run_tests : (winner indices : ℕ) → List Test
   old_run_tests winner indices =
-      old_record fields ∷ (old_tests o ++ (mark_bytes f.marks ∷ later_tests numbers n (length f.stops) (length f.trials) winner indices))
+      old_record fields ∷ (old_tests o ++ (mark_bytes 4 f.marks ∷ later_tests numbers n (length f.stops) (length f.trials) winner indices))
 
   unfoldable pub old_answer : (winner indices : ℕ) → Answer (Winner Model)
   old_answer winner indices =

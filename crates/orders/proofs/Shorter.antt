@@ -35,7 +35,7 @@ use Rattle.book.specs.Book.{Book, Held, none, held, is_refused, is_held, is_won,
 use Rattle.book.specs.Calls.{is_closed, number_in, tried}
 use Rattle.records.specs.Options.{options_record, options_tests, thresh, confidence, iters}
 use Rattle.records.specs.Trial.{trial_of}
-use Rattle.records.specs.Marks.{numbers_in}
+use Rattle.records.specs.Marks.{mark_bytes, numbers_in}
 use Rattle.score.specs.Places.{indices_in}
 use Rattle.judge.specs.Judging.{rule_of, Call, worth, judged_by as judged_by_tests, judge_of, call_tests}
 use Rattle.pick.specs.Run.{Run}
@@ -43,7 +43,7 @@ use Rattle.pick.specs.Opening.{opening_tests}
 use Rattle.pick.specs.Trial.{trial_answer}
 use Rattle.pick.specs.Indices.{marks_order, under_answer, winner_answer, indices_answer}
 use Rattle.form_records.specs.Camera.{camera_record, records_tests}
-use Rattle.salghemu.specs.Whole.{mark_bytes, order_of, later_tests, run_tests as whole_tests}
+use Rattle.salghemu.specs.Whole.{order_of, later_tests, run_tests as whole_tests}
 use Rattle.orders.specs.ShortFirst.{now, before, stopped, short_and_doubled, Changed, is_none, ended, unheld, record_order, trial_order, indices_order, OfFamily, Kept, Order7}
 use Rattle.orders.proofs.Cases.{cases}
 

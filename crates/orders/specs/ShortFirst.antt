@@ -22,7 +22,7 @@ use Rattle.book.specs.Book.{Held, none, held}
 use Rattle.book.specs.Calls.{is_closed, number_in}
 use Rattle.records.specs.Options.{options_record, options_of, options_tests, usual_options}
 use Rattle.records.specs.Trial.{trial_record}
-use Rattle.records.specs.Marks.{numbers_in}
+use Rattle.records.specs.Marks.{mark_bytes, numbers_in}
 use Rattle.records.specs.declared.options.RansacOptions.{RansacOptions}
 use Rattle.judge.specs.Judging.{Call, call_tests}
 use Rattle.pick.specs.Run.{Run}
@@ -30,7 +30,7 @@ use Rattle.pick.specs.Opening.{opening_tests}
 use Rattle.pick.specs.Trial.{trial_answer}
 use Rattle.pick.specs.Indices.{marks_order, indices_answer}
 use Rattle.form_records.specs.Camera.{camera_record, camera_in, records_tests}
-use Rattle.salghemu.specs.Whole.{Files, mark_bytes, stop_bytes, trial_bytes, run_tests}
+use Rattle.salghemu.specs.Whole.{Files, stop_bytes, trial_bytes, run_tests}
 
 module _ {E M K : Type 0} (f : Family E M K) (ahead : List Test) (marks : List Float) (after : List Test) where
   -- ---- an order with 6, 7 and 18 in it, by the tests ahead of these and after them
@@ -188,7 +188,7 @@ pub record Order7 : Type 0 where
   pub whole_run : (f : Files) (winner indices : ℕ)
       → let marks = numbers_in 4 f.marks in
       let n = length (marks_of marks) in
-      Changed sheet (options_record f.options ∷ (options_tests (options_of f.options) ++ (mark_bytes f.marks ∷ []))) marks
+      Changed sheet (options_record f.options ∷ (options_tests (options_of f.options) ++ (mark_bytes 4 f.marks ∷ []))) marks
       (stop_bytes n (length f.stops) ∷ trial_bytes (length f.trials) ∷ room 88 winner ∷ room (4 * n) indices ∷ []) (run_tests f winner indices)
   -- the rows, of a sheet and of a form
   pub rows : (marks : List Float) (places : ℕ)

@@ -1,7 +1,11 @@
 // Reading the files that a run is opened with (document 01, 'Options', 'Marks', 'Stops'). A file that
 // can't be opened counts as empty. A read that fails is the end of its file.
-ghost use Rattle.std.specs.Prelude.{◌≡◌, ◌≤◌};
-ghost use Rattle.pickmarks.specs.Files.{number_count, entry_count};
+ghost use Rattle.std.specs.Prelude.{◌≡◌, ◌≤◌, [], ◌∷◌};
+ghost use Rattle.rule.specs.Order.{first_failed};
+ghost use Rattle.estimator.specs.Marks.{shape_tests};
+ghost use Rattle.sheet.specs.Sheets.{sheet};
+ghost use Rattle.records.specs.Marks.{mark_bytes, numbers_in};
+ghost use Rattle.pickmarks.specs.Files.{entry_count};
 
 use sheet::Sheet;
 use std::fs;
@@ -18,22 +22,21 @@ pub(crate) fn read_file<'b, R: Files>(rt: &R, path: &str, buffer: &'b mut [u8]) 
     }
 }
 
-// How many numbers the opening is given for a mark file of `len` bytes. Where that is no length of a
-// mark file it is given one number alone: it refuses that as 5, after the tests that come before.
-fn number_count(len: usize) -> usize
-    ensures value { result ≡ number_count len }
-    ensures upper_bound { result ≤ 8000 }
+// The numbers that the opening is given for a mark file of these bytes: where they are none, one number
+// alone. It refuses that with 5, as the file is to be refused, after the tests that come before.
+#[tactic(auto, using(crate::proofs::Given::all_given, crate::proofs::Given::none_passed))]
+fn numbers_given<'b>(bytes: &[u8], numbers: &'b mut [f64; 8000]) -> &'b [f64]
+    ensures refusal_value { first_failed (shape_tests sheet result.now) ≡ first_failed (mark_bytes 4 bytes.now ∷ []) }
+    ensures value { first_failed (mark_bytes 4 bytes.now ∷ []) ≡ 0 → result.now ≡ numbers_in 4 bytes.now }
 {
-    if len % 32 == 0 && len <= 64_000 {
-        len / 8
-    } else {
-        1
+    match records::read_marks::<Sheet>(bytes, numbers) {
+        Ok(n) => &numbers[..n],
+        Err(_) => &numbers[..1],
     }
 }
 
 // How many entries the opening is given for a stop file of `len` bytes. Where the file ends within an
-// entry, or has more than any run takes, it is given none: it refuses that as 8, after the others. (One
-// function for both kinds of file would take all five numbers of a kind, and say less at its call.)
+// entry, or has more than any run takes, it is given none: it refuses that as 8, after the others.
 fn entry_count(len: usize) -> usize
     ensures value { result ≡ entry_count len }
     ensures upper_bound { result ≤ 2001 }
@@ -45,20 +48,18 @@ fn entry_count(len: usize) -> usize
     }
 }
 
-// Reads the bytes of marks.bin, and answers how many it has: one more than there is room for where it
-// has more. Document 01 wants one buffer of 64,000 bytes, so the byte that is too many is read by itself.
-fn read_mark_bytes<R: Files>(rt: &R, bytes: &mut [u8; 64000]) -> usize
-    ensures { result ≤ 64001 }
-{
+// Reads the bytes of marks.bin: none where it goes on behind those that there is room for. Document 01
+// wants one buffer of 64,000 bytes, so the byte that is too many is read by itself.
+fn read_mark_bytes<'b, R: Files>(rt: &R, bytes: &'b mut [u8; 64000]) -> Option<&'b [u8]> {
     match fs::open(rt, "marks.bin") {
         Ok(mut file) => {
             let len = reading::read_full(&mut file, bytes);
-            if len < 64000 {
-                return len;
+            if len == 64000 && reading::read_full(&mut file, &mut [0u8; 1]) != 0 {
+                return None;
             }
-            len + reading::read_full(&mut file, &mut [0u8; 1])
+            Some(&bytes[..len])
         }
-        Err(_) => 0,
+        Err(_) => Some(&[]),
     }
 }
 
@@ -66,10 +67,11 @@ fn read_mark_bytes<R: Files>(rt: &R, bytes: &mut [u8; 64000]) -> usize
 pub(crate) fn read_marks<'b, R: Files>(rt: &R, numbers: &'b mut [f64; 8000]) -> &'b [f64] {
     // no heap
     let mut bytes = [0u8; 64000];
-    let len = read_mark_bytes(rt, &mut bytes);
-    // of a file that is longer than any, the opening is given one number, so no matter which
-    records::read_marks::<Sheet>(&bytes[..len.min(64000)], numbers);
-    &numbers[..number_count(len)]
+    match read_mark_bytes(rt, &mut bytes) {
+        Some(bytes) => numbers_given(bytes, numbers),
+        // a file that is longer than any is none either
+        None => &numbers[..1],
+    }
 }
 
 // Reads stops.bin into the front of `entries`: those that the opening is given.

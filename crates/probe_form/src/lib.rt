@@ -7,15 +7,15 @@ mod geometry;
 mod reading;
 mod writing;
 
-ghost use Rattle.std.specs.Prelude.{◌≡◌};
-ghost use Rattle.rule.specs.Lists.{filled};
+ghost use Rattle.std.specs.Prelude.{◌≡◌, [], ◌∷◌, cond, eqb, length};
+ghost use Rattle.rule.specs.Order.{first_failed};
 ghost use Rattle.form.specs.Forms.{form};
 ghost use Rattle.form_records.specs.Camera.{records_answer};
-ghost use Rattle.records.specs.Marks.{numbers_in};
+ghost use Rattle.records.specs.Marks.{mark_bytes, numbers_after};
 ghost use Rattle.pick.specs.Opening.{opening_answer};
 ghost use Rattle.pick.specs.Trial.{trial_answer};
 ghost use Rattle.pick.specs.Indices.{indices_answer, indices_after};
-ghost use Rattle.words.specs.Calls.{options_of, opened_number, opened_after, tried_number, tried_after, listed_number, listed_after};
+ghost use Rattle.words.specs.Calls.{NO_WORDS, options_of, opened_number, opened_after, tried_number, tried_after, listed_number, listed_after};
 ghost use Rattle.probe_form.specs.Words.{state_words, answer_words, state_in};
 ghost use Rattle.probe_form.specs.Plain.{camera_by};
 
@@ -110,9 +110,15 @@ pub extern "C" fn probe_form_winner_indices(
     words::indexed(pick::winner_indices(reading::state_in(state), marks, indices))
 }
 
+// The numbers of a mark file to a list of 8,000 places: 0, or the number of the refusal. A list of another
+// length can't be lent.
 #[unsafe(no_mangle)]
-pub extern "C" fn probe_form_read_marks(bytes: &[u8], numbers: &mut [f64])
-    ensures { numbers.new ≡ filled (numbers_in 5 bytes.now) numbers.old }
+pub extern "C" fn probe_form_read_marks(bytes: &[u8], numbers: &mut [f64]) -> u32
+    ensures value { result ≡ cond (eqb (length numbers.old) 8000) (first_failed (mark_bytes 5 bytes.now ∷ [])) NO_WORDS }
+    ensures numbers_after { numbers.new ≡ cond (eqb (length numbers.old) 8000) (numbers_after 5 bytes.now numbers.old) numbers.old }
 {
-    records::read_marks::<Camera>(bytes, numbers);
+    match numbers.as_mut_array::<8000>() {
+        Some(list) => rule::number(records::read_marks::<Camera>(bytes, list)),
+        None => words::NO_WORDS,
+    }
 }

@@ -6,16 +6,17 @@ mod reading;
 mod scoring;
 mod writing;
 
-ghost use Rattle.std.specs.Prelude.{◌≡◌};
+ghost use Rattle.std.specs.Prelude.{◌≡◌, [], ◌∷◌, cond, eqb, length};
 ghost use Rattle.rule.specs.Lists.{filled};
+ghost use Rattle.rule.specs.Order.{first_failed};
 ghost use Rattle.sheet.specs.Sheets.{sheet, no_camera};
-ghost use Rattle.records.specs.Marks.{numbers_in};
+ghost use Rattle.records.specs.Marks.{mark_bytes, numbers_after};
 ghost use Rattle.records.specs.Options.{usual_options};
 ghost use Rattle.pick.specs.Opening.{opening_answer, record_answer};
 ghost use Rattle.pick.specs.Trial.{trial_answer};
 ghost use Rattle.pick.specs.Indices.{indices_answer, indices_after};
 ghost use Rattle.words.specs.Words.{made_words};
-ghost use Rattle.words.specs.Calls.{options_of, put_number, opened_number, opened_after, tried_number, tried_after, listed_number, listed_after};
+ghost use Rattle.words.specs.Calls.{NO_WORDS, options_of, put_number, opened_number, opened_after, tried_number, tried_after, listed_number, listed_after};
 ghost use Rattle.probe_pick.specs.Words.{state_words, answer_words, state_in};
 
 use judge::Call;
@@ -104,9 +105,15 @@ pub extern "C" fn probe_winner_indices(state: &[u64], marks: &[f64], indices: &m
     words::indexed(pick::winner_indices(reading::state_in(state), marks, indices))
 }
 
+// The numbers of a mark file to a list of 8,000 places: 0, or the number of the refusal. A list of another
+// length can't be lent.
 #[unsafe(no_mangle)]
-pub extern "C" fn probe_read_marks(bytes: &[u8], numbers: &mut [f64])
-    ensures { numbers.new ≡ filled (numbers_in 4 bytes.now) numbers.old }
+pub extern "C" fn probe_read_marks(bytes: &[u8], numbers: &mut [f64]) -> u32
+    ensures value { result ≡ cond (eqb (length numbers.old) 8000) (first_failed (mark_bytes 4 bytes.now ∷ [])) NO_WORDS }
+    ensures numbers_after { numbers.new ≡ cond (eqb (length numbers.old) 8000) (numbers_after 4 bytes.now numbers.old) numbers.old }
 {
-    records::read_marks::<Sheet>(bytes, numbers);
+    match numbers.as_mut_array::<8000>() {
+        Some(list) => rule::number(records::read_marks::<Sheet>(bytes, list)),
+        None => words::NO_WORDS,
+    }
 }

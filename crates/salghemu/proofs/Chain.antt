@@ -2,7 +2,7 @@
 use mathlib.Core.Path.{◌≡◌, refl, sym, ap, ◌∙◌}
 use mathlib.Core.Bool.{Bool, true, false, cond}
 use mathlib.Core.List.{List, [], ◌∷◌, ◌++◌}
-use Prim.Native.Nat.{ℕ, zero, suc, ◌*◌, ◌/◌, ◌%◌, ◌≤◌, ◌<◌}
+use Prim.Native.Nat.{ℕ, zero, suc, ◌*◌, ◌%◌, ◌≤◌, ◌<◌}
 use native.Mathlib.Omega.{arith}
 use borrow.Author.Tests.{eqb-true, ltb-false, not-false}
 use lib.Dec.{T, eqb, eqb-suc-zero}
@@ -27,11 +27,10 @@ use Rattle.book.specs.Book.{Winner}
 use Rattle.fields.specs.Fields.{words_of}
 use Rattle.fields.proofs.Reading.{words_count}
 use Rattle.records.specs.Options.{options_record, options_of, options_tests}
-use Rattle.records.specs.Marks.{numbers_in}
+use Rattle.records.specs.Marks.{mark_bytes, numbers_in}
 use Rattle.records.specs.declared.options.RansacOptions.{RansacOptions}
 use Rattle.records.proofs.Formed.{options_above_0}
-use Rattle.records.proofs.Whole.{numbers-length}
-use Rattle.salghemu.specs.Whole.{Files, mark_bytes, stop_bytes, trial_bytes, later_tests, order_of, run_tests, records_in, stop_of, result_of, after_tests, later_answer, run_answer}
+use Rattle.salghemu.specs.Whole.{Files, stop_bytes, trial_bytes, later_tests, order_of, run_tests, records_in, stop_of, result_of, after_tests, later_answer, run_answer}
 
 -- ---- by the number of the tests
 
@@ -77,14 +76,14 @@ module _ (f : Files) (winner indices : ℕ) where
 
   pub by_layers : run_answer f winner indices
       ≡ cond (options_record f.options).fails (refused RECORD)
-      (after_tests (first_failed (options_tests o)) (cond (mark_bytes f.marks).fails (refused SHAPE) (later_answer o (numbers_in 4 f.marks) n f.stops f.trials winner indices)))
+      (after_tests (first_failed (options_tests o)) (cond (mark_bytes 4 f.marks).fails (refused SHAPE) (later_answer o (numbers_in 4 f.marks) n f.stops f.trials winner indices)))
   unfolding run_answer later_answer run_tests order_of numbered first_failed options_record mark_bytes
   by_layers =
       let a = result_of (stop_of o n (numbers_in 4 f.marks) (words_of f.stops) (records_in f.trials)) in
-      after_both (options_record f.options ∷ []) (options_tests o ++ (mark_bytes f.marks ∷ rest)) tt a
+      after_both (options_record f.options ∷ []) (options_tests o ++ (mark_bytes 4 f.marks ∷ rest)) tt a
       ∙ after_one (options_record f.options).fails RECORD _ (omega arith)
-      ∙ ap (cond (options_record f.options).fails (refused RECORD)) (after_both (options_tests o) (mark_bytes f.marks ∷ rest) (options_above_0 o) a
-      ∙ ap (after_tests (first_failed (options_tests o))) (after_both (mark_bytes f.marks ∷ []) rest tt a ∙ after_one (mark_bytes f.marks).fails SHAPE _ (omega arith)))
+      ∙ ap (cond (options_record f.options).fails (refused RECORD)) (after_both (options_tests o) (mark_bytes 4 f.marks ∷ rest) (options_above_0 o) a
+      ∙ ap (after_tests (first_failed (options_tests o))) (after_both (mark_bytes 4 f.marks ∷ []) rest tt a ∙ after_one (mark_bytes 4 f.marks).fails SHAPE _ (omega arith)))
 
 -- ---- the later tests: of marks whose length was tested
 
@@ -145,13 +144,8 @@ entries_read bytes zeros {k} e h =
     let w : length (words_of bytes) ≡ k = (let c = words_count bytes in omega (arith, c, e)) in
     ap (λ j. take j (filled (words_of bytes) zeros)) (sym w) ∙ filled_front (words_of bytes) zeros (rw w h)
 
-pub numbers_read : (bytes : List ℕ) (zeros : List Float) {k : ℕ} → length bytes % 32 ≡ 0 → k ≡ length bytes / 8 → k ≤ length zeros → take k (filled (numbers_in 4 bytes) zeros) ≡ numbers_in 4 bytes
-numbers_read bytes zeros {k} cut e h =
-    let w : length (numbers_in 4 bytes) ≡ k = (let c = numbers-length 4 bytes in omega (arith, c, cut, e)) in
-    ap (λ j. take j (filled (numbers_in 4 bytes) zeros)) (sym w) ∙ filled_front (numbers_in 4 bytes) zeros (rw w h)
-
 -- ---- what the proof of each layer takes
 
-pub ruleset whole = (after_number, after_none, by_layers, winner_fits, indices_fit, numbers_read)
+pub ruleset whole = (after_number, after_none, by_layers, winner_fits, indices_fit)
 
 pub ruleset later = (after_number, stops_fit, marks_tested, entries_read, counts)

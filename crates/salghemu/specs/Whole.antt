@@ -1,7 +1,7 @@
 -- Document 01, 'Winner' and 'Refusals': the whole run over byte slices. The opening's order, a trial list length not a multiple of 152 as 1, 9, then trials,
 -- then 11. The trials are the book's, to the first refused, the bound or the end; those beyond aren't looked at.
-use Rattle.std.specs.Prelude.{◌≡◌, not, ◌||◌, List, [], ◌∷◌, ◌++◌, map, ℕ, zero, suc, ◌*◌, ◌%◌, ltb, eqb, length, drop, Result, Ok, Err, Float}
-use Rattle.rule.specs.Refusal.{RECORD, SHAPE, STOPS, NONE}
+use Rattle.std.specs.Prelude.{◌≡◌, not, List, [], ◌∷◌, ◌++◌, map, ℕ, zero, suc, ◌*◌, ◌%◌, eqb, length, drop, Result, Ok, Err, Float}
+use Rattle.rule.specs.Refusal.{RECORD, STOPS, NONE}
 use Rattle.rule.specs.Refusal as Refused
 use Rattle.rule.specs.declared.Refusal.{Refusal}
 use Rattle.rule.specs.Answer.{Answer, refused, gives}
@@ -19,7 +19,7 @@ use Rattle.book.specs.Book.{Winner, Held, none, held, fresh}
 use Rattle.book.specs.Rule.{Stopped, stopped, broken, run_over}
 use Rattle.fields.specs.Fields.{words_of, bytes_of, double_bytes}
 use Rattle.records.specs.Options.{options_record, options_of, options_tests}
-use Rattle.records.specs.Marks.{numbers_in}
+use Rattle.records.specs.Marks.{mark_bytes, numbers_in}
 use Rattle.records.specs.declared.options.RansacOptions.{RansacOptions}
 use Rattle.score.specs.Places.{indices_in}
 use Rattle.judge.specs.Judging.{rule_of, Call, judge_of}
@@ -34,10 +34,6 @@ pub record Files : Type 0 where
   pub trials : List ℕ
 
 -- ---- the tests before the trials
-
--- 5: not a multiple of 32 bytes, or over 64,000
-unfoldable pub mark_bytes : List ℕ → Test
-mark_bytes marks = record { fails = not (eqb (length marks % 32) 0) || ltb 64000 (length marks); number = SHAPE }
 
 -- 8: not n + 1 entries of 4 bytes
 unfoldable pub stop_bytes : ℕ → (bytes : ℕ) → Test
@@ -55,7 +51,7 @@ later_tests numbers n stops trials winner indices =
 -- 2, 3, 4, 16, 5, 6, 7, 18, 8, 1, 9
 unfoldable pub order_of : RansacOptions → (marks stops trials : List ℕ) → (winner indices : ℕ) → List Test
 order_of o marks stops trials winner indices =
-    options_tests o ++ (mark_bytes marks ∷ later_tests (numbers_in 4 marks) (length (marks_of (numbers_in 4 marks))) (length stops) (length trials) winner indices)
+    options_tests o ++ (mark_bytes 4 marks ∷ later_tests (numbers_in 4 marks) (length (marks_of (numbers_in 4 marks))) (length stops) (length trials) winner indices)
 
 unfoldable pub run_tests : Files → (winner indices : ℕ) → List Test
 run_tests f winner indices = options_record f.options ∷ order_of (options_of f.options) f.marks f.stops f.trials winner indices

@@ -134,7 +134,7 @@ fn give(o: RansacOptions, w: Winner<Model>, numbers: &[f64], winner: &mut [u8], 
 }
 
 // The whole run: the winner written, or the refusal and nothing written.
-#[tactic(auto, using(crate::proofs::Chain::whole), unfolding(rule::specs::Order::first_failed, rule::specs::Order::decided, records::specs::Options::options_answer, records::specs::Options::options_record, crate::specs::Whole::mark_bytes, crate::specs::Whole::number_of, crate::specs::Whole::written))]
+#[tactic(auto, using(crate::proofs::Chain::whole), unfolding(rule::specs::Order::first_failed, rule::specs::Order::decided, records::specs::Options::options_answer, records::specs::Options::options_record, records::specs::Marks::marks_answer, records::specs::Marks::mark_bytes, crate::specs::Whole::number_of, crate::specs::Whole::written))]
 pub fn salghemu_run(
     options: &[u8],
     marks: &[u8],
@@ -147,13 +147,10 @@ pub fn salghemu_run(
 {
     let o = records::read_options(options)?;
     records::validate(o)?;
-    if marks.len() % 32 != 0 || 64_000 < marks.len() {
-        return Err(Refusal::Shape);
-    }
     // no heap, so there are four places for each mark of the longest run
     let mut room = [0.0; 8000];
-    records::read_marks::<Sheet>(marks, &mut room);
-    let numbers = &room[..marks.len() / 8];
+    let n = records::read_marks::<Sheet>(marks, &mut room)?;
+    let numbers = &room[..n];
     let w = won(o, numbers, stops, trials, winner, indices)?;
     give(o, w, numbers, winner, indices);
     Ok(())

@@ -19,7 +19,7 @@ pub trait Proved: Cases {
     ) -> u32;
     fn trial(state: &[u64], record: &[u8], marks: &[f64], stops: &[u32], out: &mut [u64]) -> u32;
     fn winner_indices(state: &[u64], marks: &[f64], indices: &mut [u32]) -> u64;
-    fn read_marks(bytes: &[u8], numbers: &mut [f64]);
+    fn read_marks(bytes: &[u8], numbers: &mut [f64]) -> u32;
 
     fn distance_told(&self, h: &Self::Model, mark: &Self::Mark, ratio: f64) -> u32;
     fn proved_distance(&self, h: &Self::Model, mark: &Self::Mark, ratio: f64) -> f64;
@@ -61,8 +61,8 @@ macro_rules! calls {
             $module::winner_indices(state, marks, indices)
         }
 
-        fn read_marks(bytes: &[u8], numbers: &mut [f64]) {
-            $module::read_marks(bytes, numbers);
+        fn read_marks(bytes: &[u8], numbers: &mut [f64]) -> u32 {
+            $module::read_marks(bytes, numbers)
         }
     };
 }

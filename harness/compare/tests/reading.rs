@@ -1,59 +1,78 @@
-//! The proved reading of a file of marks: the numbers of the whole ones, where
-//! the lent list has a place for each.
+//! The proved reader of a file of marks: which files it refuses, and the
+//! numbers of the others, each in its place of the lent list.
 
 use compare::families::Proved;
 use compare::{cases, for_each_family, junk, same_lists};
 use oracle::cases::Random;
-use oracle::sheet_cases::room;
+use proved::pick::{NO_WORDS, NUMBERS};
 
-for_each_family!(any_bytes, lengths);
+for_each_family!(any_bytes, lengths, other_places);
 
-/// Compares one file, with the whole lent list; tells whether it was written.
-fn compare<F: Proved>(bytes: &[u8], room: usize) -> bool {
-    let whole = bytes.chunks_exact(8 * F::WIDTH).flatten();
-    let whole: Vec<u8> = whole.copied().collect();
-    let doubles = whole.as_chunks().0.iter();
-    let numbers: Vec<f64> = doubles.map(|&eight| f64::from_le_bytes(eight)).collect();
-    let mut theirs = junk(room);
-    let fits = numbers.len() <= room;
-    if fits {
-        theirs[..numbers.len()].copy_from_slice(&numbers);
+/// Compares one file, with the whole lent list; tells whether it was read. It is
+/// where it has a whole number of marks and at most 64,000 bytes, and else is
+/// refused with 5.
+fn compare<F: Proved>(bytes: &[u8]) -> bool {
+    let read = bytes.len().is_multiple_of(8 * F::WIDTH) && bytes.len() <= 64_000;
+    let mut theirs = junk(NUMBERS);
+    if read {
+        let doubles = bytes.as_chunks().0.iter();
+        for (place, &eight) in theirs.iter_mut().zip(doubles) {
+            *place = f64::from_le_bytes(eight);
+        }
     }
-    let mut ours = junk(room);
-    F::read_marks(bytes, &mut ours);
-    assert!(
-        same_lists(&ours, &theirs),
-        "room {room}, {bytes:?}: {ours:?}"
-    );
-    fits && !numbers.is_empty()
+    let mut ours = junk(NUMBERS);
+    let number = F::read_marks(bytes, &mut ours);
+    assert_eq!(number, if read { 0 } else { 5 }, "{} bytes", bytes.len());
+    assert!(same_lists(&ours, &theirs), "{bytes:?}: {ours:?}");
+    read
+}
+
+/// Bytes; no two marks near each other have the same.
+fn some_bytes(len: usize) -> Vec<u8> {
+    (0..len).map(|i| (i * 37 % 251) as u8).collect()
 }
 
 fn any_bytes<F: Proved>() {
     let random = &mut Random::new(75);
-    let mut written = [0; 2];
+    let mark = 8 * F::WIDTH;
+    let mut read = [0; 2];
     for i in 0..cases(20_000) {
         let len = match i % 256 {
             0 => random.below(64_100),
             _ => random.below(400),
         };
+        let len = match random.below(2) {
+            0 => len as usize,
+            _ => len as usize / mark * mark,
+        };
         let bytes: Vec<u8> = (0..len).map(|_| random.word() as u8).collect();
-        let need = bytes.len() / (8 * F::WIDTH) * F::WIDTH;
-        let room = room(random, need);
-        written[usize::from(compare::<F>(&bytes, room))] += 1;
+        read[usize::from(compare::<F>(&bytes))] += 1;
     }
-    assert!(written.iter().all(|&times| times > 0), "{written:?}");
+    assert!(read.iter().all(|&times| times > 0), "{read:?}");
 }
 
-/// Every length about one mark, two, and the longest file.
+/// Every length to two marks and some bytes, six marks of a form with seven
+/// bytes left over, and to either side of the longest file.
 fn lengths<F: Proved>() {
-    let mark = 8 * F::WIDTH;
-    let most = F::MOST * mark;
-    let bytes: Vec<u8> = (0..most + 2 * mark).map(|i| (i * 37 % 251) as u8).collect();
-    for len in (0..2 * mark + 9).chain(most - 9..most + mark + 9) {
-        let need = len / mark * F::WIDTH;
-        for room in [need, need.saturating_sub(1), need + 3, 0] {
-            let written = compare::<F>(&bytes[..len], room);
-            assert_eq!(written, need > 0 && need <= room);
-        }
+    let most = F::MOST * 8 * F::WIDTH;
+    assert_eq!(most, 64_000);
+    let bytes = some_bytes(64_100);
+    let mut read = 0;
+    let far = [247, 63_999, 64_000, 64_001, 64_032, 64_040];
+    for len in (0..=81).chain(most - 81..most + 81).chain(far) {
+        read += usize::from(compare::<F>(&bytes[..len]));
+    }
+    // Of either family: none, one and two marks, two less than the most, one less
+    // and the most, and once more the most.
+    assert_eq!(read, 7);
+}
+
+/// A list of another length can't be lent.
+fn other_places<F: Proved>() {
+    let bytes = some_bytes(8 * F::WIDTH);
+    for places in [0, F::WIDTH, NUMBERS - 1, NUMBERS + 1] {
+        let mut numbers = junk(places);
+        assert_eq!(F::read_marks(&bytes, &mut numbers), NO_WORDS);
+        assert!(same_lists(&numbers, &junk(places)));
     }
 }

@@ -15,7 +15,7 @@ use oracle::writing_cases::{
     trial_record,
 };
 use oracle::{Family, Mark, Sheet};
-use proved::pick;
+use proved::pick::{self, NUMBERS};
 use proved::writing::{write_mark, write_options, write_trial};
 use std::fmt::Debug;
 
@@ -135,10 +135,11 @@ impl Numbers for Mark {
         write_mark(self, out)
     }
 
-    /// The reader tests nothing; an opening over the mark four times does.
+    /// The reader tests the length alone; an opening over the mark four times
+    /// tests its numbers.
     fn read(record: &[u8]) -> Result<Self, u32> {
-        let mut numbers = junk(5);
-        pick::read_marks(record, &mut numbers);
+        let mut numbers = junk(NUMBERS);
+        assert_eq!(pick::read_marks(record, &mut numbers), 0);
         assert_eq!(numbers[4], junk(5)[4]);
         numbers.truncate(4);
         let marks = numbers.repeat(4);

@@ -77,7 +77,7 @@ macro_rules! calls {
                 bytes_len: usize,
                 numbers: *mut f64,
                 numbers_len: usize,
-            );
+            ) -> u32;
         }
 
         /// A trial, as words: the new state's, then which outcome, the
@@ -123,9 +123,9 @@ macro_rules! calls {
             }
         }
 
-        /// The numbers of a file of marks, to the front of the lent list if it
-        /// has room for all of them.
-        pub fn read_marks(bytes: &[u8], numbers: &mut [f64]) {
+        /// The numbers of a file of marks, to the front of the lent list, which
+        /// has [`NUMBERS`](crate::pick::NUMBERS) places: 0, or the refusal.
+        pub fn read_marks(bytes: &[u8], numbers: &mut [f64]) -> u32 {
             // SAFETY: as above.
             unsafe { $read_marks(of(bytes), bytes.len(), lent(numbers), numbers.len()) }
         }
@@ -135,8 +135,12 @@ pub(crate) use calls;
 
 calls!(probe_trial, probe_winner_indices, probe_read_marks);
 
-/// What a probe answers where a list for its words is too short.
+/// What a probe answers where a list for its words is too short, or one for
+/// the numbers of marks has not [`NUMBERS`] places.
 pub const NO_WORDS: u32 = u32::MAX;
+
+/// The numbers of the longest file of marks, of either family.
+pub const NUMBERS: usize = 8000;
 
 /// A list's pointer; an empty one goes over as NULL, as a C caller's may.
 pub(crate) fn of<T>(list: &[T]) -> *const T {
