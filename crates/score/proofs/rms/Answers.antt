@@ -17,4 +17,4 @@ pub returns-clause-number : goal.returns-clause-number
 unfolding rms_of
 returns-clause-number c =
     let number = rms_number c.args.count c.of.result.thresh (map root_of c.args.squares.now) (let few = c.ranges.count.fits in omega (arith, few)) in
-    rw (c.sqrt.ensures, c.sum_squares.ensures, c.from.ensures) (rw (ne_eqb c.args.count 0 c.if-count-eq0.false) at number)
+    rw (c.sqrt.ensures.value, c.sum_squares.ensures, c.from.ensures) (rw (ne_eqb c.args.count 0 c.if-count-eq0.false) at number)
