@@ -1,3 +1,4 @@
 pub mod Bounds
 pub mod Walk
 pub mod Least
+pub mod Number
