@@ -1,6 +1,6 @@
 -- Demand 3, for any family of states, calls and answers.
 --
--- `picking_rule`: of the book alone, whatever the calls come to. `kept_along`: after any list of calls from an opening, each handed the state that the last gave
+-- `picking_rule`: of the book alone, where no root mean square that is scored is a NaN or negative. `kept_along`: after any list of calls from an opening, each handed the state that the last gave
 -- back, every answer, and the state's winner, counts and bound, are the book's, so the rule holds of them.
 -- `winner_has`: what every scored trial with the right marks and stops has, the book's winner has; its count and rms are its model's own (`judge_own`).
 -- `callable`: where every call has an answer, every list of calls has its answers, and a state at the end.

@@ -1,6 +1,6 @@
 // The picking rule of document 01 ('Trials', 'Picking rule'), for any kind of model and of distance:
-// `specs/` has the scoring of a trial, the book and what demand 3 says of it. No code is here: each
-// function promises a theorem, which holds of every list, and does nothing.
+// `specs/` has the scoring of a trial, the book and what demand 3 says of it. Each function stands for a
+// theorem and does nothing; there is no other code.
 #![tactic(auto)]
 
 ghost use Rattle.book.specs.Score.{RmsNotNan};

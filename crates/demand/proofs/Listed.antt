@@ -14,6 +14,7 @@ use Rattle.rule.specs.Answer.{gives, answered}
 use Rattle.rule.specs.Order.{first_failed, decided, if_passed}
 use Rattle.rule.specs.Arith.{clear}
 use Rattle.rule.proofs.Order.{decided-gives, done, first_passed, decided-none}
+use Rattle.rule.proofs.Views.{answered_one}
 use Rattle.estimator.specs.Family.{Family, mark_at, distance_of, distances_of, inlier}
 use Rattle.estimator.proofs.Tests.{few_marks}
 use Rattle.book.specs.Score.{close, count_in, rms_in, Standing, scored}
@@ -35,7 +36,7 @@ use Rattle.pick.specs.Indices.{marks_order, under_answer, under_after, winner_an
 use Rattle.pick.specs.declared.run_state.State.{State}
 use Rattle.judge.proofs.Left.{by_number}
 use Rattle.pick.proofs.Order.{opened_iters, call_short}
-use Rattle.pick.proofs.View.{indexed-one, state_onto, trial_onto}
+use Rattle.pick.proofs.View.{state_onto, trial_onto}
 use Rattle.pick.proofs.Accepted.{order_passes, steps_as_trial}
 use Rattle.demand.specs.Demand.{OpensBy, Told, view_told, Tried, Stepped, Indexes, Opening, Carries, judged, CarriedBy, Exactly, IndicesGiven, AfterCalls, CallsKept}
 use Rattle.demand.proofs.Placed.{places_exactly}
@@ -174,7 +175,7 @@ module _ {E M K : Type 0} (f : Family E M K) (w : ℕ) (wide : 4 ≤ w) (counts 
           -- where the order passes they are given
           given-all : 0 ≡ order → (after : List ℕ) (r : Result ℕ Refusal) → Indexes f s l entry r after → (r ≡ Ok (length xs)) × (after ≡ xs ++ drop (length xs) entry)
           given-all pass after r call =
-              (indexed-one r (Ok (length xs)) (call.answers ∙ answer_is ∙ sym (decided-none (length xs) pass)), call.leaves ∙ after_is ∙ sym (done (xs ++ drop (length xs) entry) entry pass))
+              (answered_one r (Ok (length xs)) (call.answers ∙ answer_is ∙ sym (decided-none (length xs) pass)), call.leaves ∙ after_is ∙ sym (done (xs ++ drop (length xs) entry) entry pass))
 
       -- over the opening's marks they are given
       pub given_as : (entry after : List ℕ) (r : Result ℕ Refusal) → Indexes f s marks entry r after → n ≤ length entry

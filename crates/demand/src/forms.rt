@@ -1,6 +1,6 @@
-// The calls of a form's run, at its own types: each only calls through, and promises in the words of `form`
-// what the theorem takes as its premise. So a family of another kind in the place of `form`, or a weaker
-// contract of what is called, breaks this crate.
+// The calls of a form's run, at its own types: each only calls through, and promises in the words of
+// `form` what the theorem takes as its premise. So a family of another kind in the place of `form`, or
+// a weaker contract of what is called, breaks this crate.
 ghost use Rattle.judge.specs.Judging.{call_of};
 ghost use Rattle.form.specs.Forms.{form};
 ghost use Rattle.demand.specs.Demand.{Opens, OpensBy, OpensByRecords, Tried as Tries, Stepped, Indexes};

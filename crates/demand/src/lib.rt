@@ -1,7 +1,8 @@
-// The customer's third demand, one theorem: `specs/Demand.antt` states it, each clause beside the demand's
-// words, and `demand_3` promises it. What it takes as its premises is what the calls promise at their own
-// types: `sheets` and `forms` have functions that only call through, and promise just these. The functions
-// here do the same of any family, and `calls_kept` promises what the demand says of its calls.
+// The customer's third demand, one theorem: `specs/Demand.antt` states it, each clause beside the
+// demand's words, and `demand_3` promises it. What it takes as its premises is what the calls promise at
+// their own types: `sheets` and `forms` have functions that only call through, and promise just these.
+// The functions here do the same of any family, and `calls_kept` promises what the demand says of calls,
+// of any family.
 #![tactic(auto)]
 
 pub mod forms;

@@ -1,6 +1,6 @@
 // The calls of a sheet's run, at its own types: each only calls through, and promises in the words of
-// `sheet` what the theorem takes as its premise. So a family of another kind in the place of `sheet`, or a
-// weaker contract of what is called, breaks this crate.
+// `sheet` what the theorem takes as its premise. So a family of another kind in the place of `sheet`, or
+// a weaker contract of what is called, breaks this crate.
 ghost use Rattle.rule.specs.Answer.{refusal_in};
 ghost use Rattle.judge.specs.Judging.{call_of};
 ghost use Rattle.sheet.specs.Sheets.{sheet, no_camera};

@@ -244,5 +244,4 @@ pub fn distance<E: Estimator>(
 #[tactic(auto, using(crate::proofs::View::view_one))]
 pub fn one_answer()
     ensures { OneAnswer measured }
-{
-}
+{}

@@ -1,3 +1,2 @@
 pub mod Near
 pub mod Baseline
-pub mod View

@@ -44,7 +44,7 @@ use Rattle.pick.specs.Trial.{trial_answer}
 use Rattle.pick.specs.Indices.{marks_order, under_answer, winner_answer, indices_answer}
 use Rattle.form_records.specs.Camera.{camera_record, records_tests}
 use Rattle.salghemu.specs.Whole.{order_of, later_tests, run_tests as whole_tests}
-use Rattle.orders.specs.ShortFirst.{now, before, stopped, short_and_doubled, Changed, is_none, ended, unheld, record_order, trial_order, indices_order, OfFamily, Kept, Order7}
+use Rattle.orders.specs.ShortFirst.{now, before, stopped, short_and_doubled, Changed, is_none, ended, unheld, record_order, trial_order, indices_order, OfFamily, AsBefore, Order7}
 use Rattle.orders.proofs.Cases.{cases}
 
 -- ---- by what the tests say
@@ -232,9 +232,9 @@ module _ {E M K : Type 0} (f : Family E M K) (w : ℕ) (counts : (l : List Float
         indices_answers = indices_number f;
       }
 
-kept : Kept
+without : AsBefore
 unfolding marks_tests normalize_tests form_normalize_tests
-kept = record { normalizing = λ marks side places. refl; form_normalizing = λ marks places. refl; line = λ marks. refl }
+without = record { normalizing = λ marks side places. refl; form_normalizing = λ marks places. refl; line = λ marks. refl }
 
 pub order_7 : Order7
 unfolding now numbered run_tests enough_tests options_tests opening_tests options_record camera_record records_tests thresh confidence iters ratio shape mark_bytes order_of later_tests whole_tests rows_tests form_rows_tests
@@ -249,6 +249,6 @@ order_7 =
       whole_run = λ f winner indices. changed sheet _ _ _ _ tt refl (of_sheet (numbers_in 4 f.marks));
       rows = λ marks places. changed sheet _ _ _ _ tt refl (of_sheet marks);
       form_rows = λ marks places. changed form _ _ _ _ tt refl (of_form marks);
-      kept = kept;
+      without = without;
       cases = cases;
     }

@@ -118,7 +118,7 @@ abbrev pub Without7 : {E M K : Type 0} → Family E M K → (marks : List Float)
 Without7 f marks after order = order ≡ shape f marks ∷ point marks ∷ double f marks ∷ after
 
 -- They are as they were: with no 7, nothing changes places with 18.
-pub record Kept : Type 0 where
+pub record AsBefore : Type 0 where
   -- normalising, of either side of a sheet's marks and of a form's
   pub normalizing : (marks : List Float) (side : Side) (places : ℕ)
       → Without7 sheet marks (spread (points side marks) ∷ room (2 * length (points side marks)) places ∷ []) (normalize_tests marks side places)
@@ -195,5 +195,5 @@ pub record Order7 : Type 0 where
       → Changed sheet (shape sheet marks ∷ []) marks (sheet_line marks ∷ pixel_line marks ∷ spreads marks ∷ room (18 * length (marks_of marks)) places ∷ []) (rows_tests marks places)
   pub form_rows : (marks : List Float) (places : ℕ)
       → Changed form (shape form marks ∷ []) marks (form_spread (form_points marks) ∷ room (24 * length (form_marks_of marks)) places ∷ []) (form_rows_tests marks places)
-  pub kept : Kept
+  pub without : AsBefore
   pub cases : Cases

@@ -115,6 +115,7 @@ pub fn form_rows(marks: &[f64], rows: &mut [f64]) -> Result<(), Refusal>
     dlt::dlt_rows(marks, rows)
 }
 
+/// Normalising of one side of a sheet's marks; it has no 7.
 #[tactic(auto, using(crate::proofs::Told::answered_number), unfolding(linalg::specs::Normalize::normalize_answer))]
 pub fn normalize(points: Points, lent: &mut [f64]) -> Result<Normalized, Refusal>
     ensures { refusal_in result ≡ first_failed (normalize_tests points.entry.marks.now points.entry.side (length lent.old)) }
@@ -122,6 +123,7 @@ pub fn normalize(points: Points, lent: &mut [f64]) -> Result<Normalized, Refusal
     linalg::normalize_points_2d(points, lent)
 }
 
+/// Normalising of a form's marks, likewise.
 #[tactic(auto, using(crate::proofs::Told::answered_number), unfolding(linalg_3d::specs::Normalize::normalize_answer))]
 pub fn form_normalize(marks: &[f64], lent: &mut [f64]) -> Result<linalg_3d::Normalized, Refusal>
     ensures { refusal_in result ≡ first_failed (form_normalize_tests marks.now (length lent.old)) }
@@ -129,6 +131,7 @@ pub fn form_normalize(marks: &[f64], lent: &mut [f64]) -> Result<linalg_3d::Norm
     linalg_3d::normalize_points_3d(marks, lent)
 }
 
+/// The test for a line, likewise.
 #[tactic(auto, using(crate::proofs::Told::answered_number), unfolding(line::specs::Collinear::collinear_answer))]
 pub fn collinear(points: Points) -> Result<bool, Refusal>
     ensures { refusal_in result ≡ first_failed (marks_tests sheet points.entry.marks.now) }

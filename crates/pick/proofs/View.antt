@@ -77,11 +77,6 @@ state_one = told_apart view_state state_of state_back
 pub state_onto : {E M : Type 0} (r : Run E M) → (s : State E M) × (view_state s ≡ r)
 state_onto r = (state_of r, state_there r)
 
--- ---- the indices' answer
-
-pub indexed-one : (x y : Result ℕ Refusal) → answered x ≡ answered y → x ≡ y
-indexed-one = answered_one
-
 -- ---- a trial's outcome
 
 -- A refused one apart from the others, as the code's `Result` has it.

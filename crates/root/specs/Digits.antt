@@ -34,7 +34,7 @@ unfoldable pub after_digits : ℕ → ℕ → Partial
 after_digits scaled zero = record { root = 0; rem = 0 }
 after_digits scaled (suc i) = one_more (after_digits scaled i) (taken scaled (suc i) % 4)
 
--- The sentence, of every number of 108 digits and after each of the 54.
+-- The sentence, of every number of at most 108 digits, before the first of the 54 digits of its root and after each.
 abbrev pub AfterEachDigit : Type 0
 AfterEachDigit = (scaled i : ℕ) → scaled < 4 ^ 54 → i ≤ 54 → Extracted (taken scaled i) (after_digits scaled i).root (after_digits scaled i).rem
 
@@ -83,7 +83,8 @@ HoldsAt numbers i states unit k = (d : Digits) → Holds (get_or numbers k 0 * 2
 abbrev pub AllHold : (numbers : List ℕ) (i : ℕ) (states : List Digits) (unit : ℕ) → Type 0
 AllHold numbers i states unit = (k : ℕ) → k < length numbers → HoldsAt numbers i states unit k
 
--- The sentence, of what the loop holds of the one at place k: in whole units, its root and its remainder are those of the part taken of the number times 2 ^ 54.
+-- The sentence, of what the loop holds of the one at place k: in whole units, its root and its remainder are those of the part that is taken of the number
+-- times 2 ^ 54.
 abbrev pub ExtractedAt : (numbers : List ℕ) (i : ℕ) (states : List Digits) (unit k : ℕ) → Type 0
 ExtractedAt numbers i states unit k =
     (d : Digits) → Extracted (taken (get_or numbers k 0 * 2 ^ 54) i) ((get_or states k d).root / unit) ((get_or states k d).left / unit)

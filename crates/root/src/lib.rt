@@ -112,7 +112,7 @@ fn six_digits<const N: usize>(
     s
 }
 
-/// The first `count` of the 54 digits of each root, in units of 2 ^ (55 - count). Each is the root of
+/// The first `count` of the 54 digits of each root, in units of 2 ^ (55 - count). Each root is that of
 /// n * 2 ^ 54, for an n of the list, which has 54 digits at most.
 pub fn after_digits<const N: usize>(n: [u64; N], count: u32) -> [Digits; N]
     requires { AllShort n × (count ≤ 54) }

@@ -29,6 +29,7 @@ pub enum Refusal {
     Ratio = 16,
     Camera = 17,
     Double = 18,
+    // From here on they are named, and no call answers them yet.
     Narrow = 19,
     Path = 20,
     Plan = 21,

@@ -52,8 +52,8 @@ fn sum_squares(limits: Limits, squares: &[f64]) -> f64
     sum.all(limits.thresh)
 }
 
-// The root mean square of the roots within the threshold, by their number; infinite where that is 0, and
-// never a NaN.
+/// The root mean square of the roots within the threshold, by their number; infinite where that is 0, and
+/// never a NaN.
 #[tactic(auto, using(crate::proofs::Number::numbers), unfolding(book::specs::Score::rms_of))]
 pub fn rms(thresh: f64, squares: &[f64], count: u32) -> f64
     ensures value { result ≡ rms_of count (squares_in thresh (map root_of squares.now)) }
