@@ -24,7 +24,7 @@ pub(crate) fn read_file<'b, R: Files>(rt: &R, path: &str, buffer: &'b mut [u8]) 
 
 // The numbers that the opening is given for a mark file of these bytes: where they are none, one number
 // alone. It refuses that with 5, as the file is to be refused, after the tests that come before.
-#[tactic(auto, using(crate::proofs::Given::all_given, crate::proofs::Given::none_passed))]
+#[tactic(auto, unfolding(rule::specs::Order::first_failed, estimator::specs::Marks::shape_tests, estimator::specs::Marks::shape, records::specs::Marks::mark_bytes))]
 fn numbers_given<'b>(bytes: &[u8], numbers: &'b mut [f64; 8000]) -> &'b [f64]
     ensures refusal_value { first_failed (shape_tests sheet result.now) ≡ first_failed (mark_bytes 4 bytes.now ∷ []) }
     ensures value { first_failed (mark_bytes 4 bytes.now ∷ []) ≡ 0 → result.now ≡ numbers_in 4 bytes.now }

@@ -13,7 +13,7 @@ module _ (w : ℕ) where
   unfoldable pub mark_bytes : List ℕ → Test
   mark_bytes l = record { fails = not (eqb (length l % (8 * w)) 0) || ltb 64000 (length l); number = SHAPE }
 
-  -- the numbers of the file, mark by mark
+  -- the numbers of each whole mark, from its own part of the bytes
   unfoldable pub numbers_in : List ℕ → List Float
   numbers_in l = for_each doubles_of (parts_of (8 * w) l)
 
