@@ -1,6 +1,7 @@
 // Reading the files that a run is opened with (document 01, 'Options', 'Marks', 'Stops'). A file that
 // can't be opened counts as empty. A read that fails is the end of its file.
 ghost use Rattle.std.specs.Prelude.{◌≡◌, ◌≤◌, [], ◌∷◌};
+ghost use Rattle.rule.specs.Refusal.{SHAPE};
 ghost use Rattle.rule.specs.Order.{first_failed};
 ghost use Rattle.estimator.specs.Marks.{shape_tests};
 ghost use Rattle.sheet.specs.Sheets.{sheet};
@@ -22,8 +23,17 @@ pub(crate) fn read_file<'b, R: Files>(rt: &R, path: &str, buffer: &'b mut [u8]) 
     }
 }
 
-// The numbers that the opening is given for a mark file of these bytes: where they are none, one number
-// alone. It refuses that with 5, as the file is to be refused, after the tests that come before.
+// What the opening is given for a file of marks that is none: one number, which it refuses with 5, after
+// the tests that come before.
+#[tactic(auto, unfolding(rule::specs::Order::first_failed, estimator::specs::Marks::shape_tests, estimator::specs::Marks::shape))]
+fn none_given<'b>(numbers: &'b mut [f64; 8000]) -> &'b [f64]
+    ensures { first_failed (shape_tests sheet result.now) ≡ SHAPE }
+{
+    &numbers[..1]
+}
+
+// The numbers that the opening is given for a mark file of these bytes: it refuses them with 5 where the
+// file is to be refused.
 #[tactic(auto, unfolding(rule::specs::Order::first_failed, estimator::specs::Marks::shape_tests, estimator::specs::Marks::shape, records::specs::Marks::mark_bytes))]
 fn numbers_given<'b>(bytes: &[u8], numbers: &'b mut [f64; 8000]) -> &'b [f64]
     ensures refusal_value { first_failed (shape_tests sheet result.now) ≡ first_failed (mark_bytes 4 bytes.now ∷ []) }
@@ -31,7 +41,7 @@ fn numbers_given<'b>(bytes: &[u8], numbers: &'b mut [f64; 8000]) -> &'b [f64]
 {
     match records::read_marks::<Sheet>(bytes, numbers) {
         Ok(n) => &numbers[..n],
-        Err(_) => &numbers[..1],
+        Err(_) => none_given(numbers),
     }
 }
 
@@ -69,8 +79,7 @@ pub(crate) fn read_marks<'b, R: Files>(rt: &R, numbers: &'b mut [f64; 8000]) -> 
     let mut bytes = [0u8; 64000];
     match read_mark_bytes(rt, &mut bytes) {
         Some(bytes) => numbers_given(bytes, numbers),
-        // a file that is longer than any is none either
-        None => &numbers[..1],
+        None => none_given(numbers),
     }
 }
 
