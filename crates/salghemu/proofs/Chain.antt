@@ -146,6 +146,6 @@ entries_read bytes zeros {k} e h =
 
 -- ---- what the proof of each layer takes
 
-pub ruleset whole = (after_number, after_none, by_layers, winner_fits, indices_fit)
+pub ruleset whole = (after_number, after_none, by_layers)
 
 pub ruleset later = (after_number, stops_fit, marks_tested, entries_read, counts)

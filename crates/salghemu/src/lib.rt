@@ -133,6 +133,28 @@ fn give(o: RansacOptions, w: Winner<Model>, numbers: &[f64], winner: &mut [u8], 
     fields::write_all(&places[..count], indices);
 }
 
+// What the winner over marks of the right length, decoded, gives written; or the refusal and nothing
+// written. (A function of its own: within the whole run LLVM leaves `give` out of line, whose lists then
+// take 24,000 bytes of stack more.)
+#[tactic(auto, using(crate::proofs::Chain::winner_fits, crate::proofs::Chain::indices_fit), unfolding(crate::specs::Whole::number_of, crate::specs::Whole::written))]
+fn give_winner(
+    o: RansacOptions,
+    numbers: &[f64],
+    stops: &[u8],
+    trials: &[u8],
+    winner: &mut [u8],
+    indices: &mut [u8],
+) -> Result<(), Refusal>
+    requires options_pass { 0 ≡ first_failed (options_tests o) }
+    requires numbers_len { length numbers.now % 4 ≡ 0 }
+    requires numbers_len_bound { length numbers.now ≤ 8000 }
+    ensures { Gave (later_answer o numbers.now (length (marks_of numbers.now)) stops.now trials.now (length winner.old) (length indices.old)) o numbers.now winner.old indices.old (refusal_in result) winner.new indices.new }
+{
+    let w = won(o, numbers, stops, trials, winner, indices)?;
+    give(o, w, numbers, winner, indices);
+    Ok(())
+}
+
 // The whole run: the winner written, or the refusal and nothing written.
 #[tactic(auto, using(crate::proofs::Chain::whole), unfolding(rule::specs::Order::first_failed, rule::specs::Order::decided, records::specs::Options::options_answer, records::specs::Options::options_record, records::specs::Marks::marks_answer, records::specs::Marks::mark_bytes, crate::specs::Whole::number_of, crate::specs::Whole::written))]
 pub fn salghemu_run(
@@ -150,8 +172,5 @@ pub fn salghemu_run(
     // no heap, so there are four places for each mark of the longest run
     let mut room = [0.0; 8000];
     let n = records::read_marks::<Sheet>(marks, &mut room)?;
-    let numbers = &room[..n];
-    let w = won(o, numbers, stops, trials, winner, indices)?;
-    give(o, w, numbers, winner, indices);
-    Ok(())
+    give_winner(o, &room[..n], stops, trials, winner, indices)
 }
