@@ -10,7 +10,7 @@ use Rattle.rule.specs.Lists.{first_parts, parts_of, filled}
 use Rattle.rule.proofs.Lists.{filled_front}
 use Rattle.fields.specs.Fields.{little_endian, fields_of, longs_of, doubles_of}
 use Rattle.records.specs.Marks.{numbers_in}
-use Rattle.records.proofs.Reading.{by_numbers, first-many}
+use Rattle.records.proofs.Reading.{by_numbers, first-many, read_none, read_more, read_all}
 
 module _ (w : ℕ) (l : List ℕ) where
   -- 8 * w bytes a mark
@@ -36,3 +36,7 @@ module _ (w : ℕ) (l : List ℕ) where
 
   pub numbers_front : (entry : List Float) → length l % (8 * w) ≡ 0 → length l ≤ 8 * length entry → take (length l / 8) (filled (numbers_in w l) entry) ≡ numbers_in w l
   numbers_front entry h room = rw (numbers_counted h) (filled_front (numbers_in w l) entry (omega (arith, numbers_counted h, room)))
+
+-- ---- what the proof of the reader takes
+
+pub ruleset reading = (read_none, read_more, read_all, numbers_counted, whole_marks, numbers_front)

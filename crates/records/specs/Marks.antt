@@ -18,9 +18,9 @@ module _ (w : ℕ) where
   numbers_in l = for_each doubles_of (parts_of (8 * w) l)
 
   -- What the reader answers: how many numbers, or 5.
-  unfoldable pub marks_answer : List ℕ → Answer ℕ
+  abbrev pub marks_answer : List ℕ → Answer ℕ
   marks_answer l = decided (first_failed (mark_bytes l ∷ [])) (length (numbers_in l))
 
   -- What is in the list that was lent to it: the numbers at its front; where the file is refused, what was there before.
-  unfoldable pub numbers_after : List ℕ → List Float → List Float
+  abbrev pub numbers_after : List ℕ → List Float → List Float
   numbers_after l entry = if_passed (first_failed (mark_bytes l ∷ [])) (filled (numbers_in l) entry) entry

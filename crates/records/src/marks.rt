@@ -25,7 +25,7 @@ fn read_mark(bytes: &[u8], numbers: &mut [f64])
 /// Reads the numbers of a file's marks, mark by mark, to the front of `numbers`, and answers how many they
 /// are. A file that isn't a whole number of marks, or has over 64,000 bytes, is refused with 5, and nothing
 /// is written.
-#[tactic(auto, using(crate::proofs::Reading::read_none, crate::proofs::Reading::read_more, crate::proofs::Reading::read_all, crate::proofs::Whole::numbers_counted, crate::proofs::Whole::whole_marks, crate::proofs::Whole::numbers_front), unfolding(rule::specs::Order::first_failed, rule::specs::Order::decided, rule::specs::Order::if_passed, crate::specs::Marks::mark_bytes, crate::specs::Marks::marks_answer, crate::specs::Marks::numbers_after))]
+#[tactic(auto, using(crate::proofs::Whole::reading), unfolding(rule::specs::Order::first_failed, rule::specs::Order::decided, rule::specs::Order::if_passed, crate::specs::Marks::mark_bytes))]
 pub fn read_marks<E: Estimator>(bytes: &[u8], numbers: &mut [f64; 8000]) -> Result<usize, Refusal>
     ensures refusal_value { refusal_in result ≡ first_failed (mark_bytes E.family.width bytes.now ∷ []) }
     ensures value { answered result ≡ marks_answer E.family.width bytes.now }

@@ -18,7 +18,8 @@ use Rattle.rule.proofs.Lists.{filled_front}
 use Rattle.rule.proofs.Views.{number_above_0}
 use Rattle.estimator.specs.Marks.{enough_tests, run_tests as tests_of_marks}
 use Rattle.estimator.proofs.Tests.{shaped}
-use Rattle.estimator.proofs.Run.{enough_numbered, enough_left}
+use Rattle.estimator.proofs.Run.{enough_numbered, enough_left, enough_first}
+use Rattle.estimator.proofs.Order.{above_0}
 use Rattle.sheet.specs.Marks.{marks_of}
 use Rattle.sheet.specs.Sheets.{sheet}
 use Rattle.sheet.specs.Owed.{counts}
@@ -149,3 +150,5 @@ entries_read bytes zeros {k} e h =
 pub ruleset whole = (after_number, after_none, by_layers)
 
 pub ruleset later = (after_number, stops_fit, marks_tested, entries_read, counts)
+
+pub ruleset tested = (counts, enough_first, above_0, enough_of_run)

@@ -65,7 +65,7 @@ fn put_winner(out: &mut [u8], w: Winner<Model>)
 
 // The tests after the marks' length, in order: refused with 6, 7, 18, 8, 1 or 9. (The marks' own test looks
 // at their length again, and passes it.)
-#[tactic(auto, unfolding(rule::specs::Order::first_failed, rule::specs::Order::room, crate::specs::Whole::later_tests, crate::specs::Whole::stop_bytes, crate::specs::Whole::trial_bytes), using(sheet::specs::Owed::counts, estimator::proofs::Run::enough_first, estimator::proofs::Order::above_0, crate::proofs::Chain::enough_of_run))]
+#[tactic(auto, unfolding(rule::specs::Order::first_failed, rule::specs::Order::room, crate::specs::Whole::later_tests, crate::specs::Whole::stop_bytes, crate::specs::Whole::trial_bytes), using(crate::proofs::Chain::tested))]
 fn check_later(
     numbers: &[f64],
     stops: &[u8],
@@ -156,7 +156,7 @@ fn give_winner(
 }
 
 // The whole run: the winner written, or the refusal and nothing written.
-#[tactic(auto, using(crate::proofs::Chain::whole), unfolding(rule::specs::Order::first_failed, rule::specs::Order::decided, records::specs::Options::options_answer, records::specs::Options::options_record, records::specs::Marks::marks_answer, records::specs::Marks::mark_bytes, crate::specs::Whole::number_of, crate::specs::Whole::written))]
+#[tactic(auto, using(crate::proofs::Chain::whole), unfolding(rule::specs::Order::first_failed, rule::specs::Order::decided, records::specs::Options::options_answer, records::specs::Options::options_record, records::specs::Marks::mark_bytes, crate::specs::Whole::number_of, crate::specs::Whole::written))]
 pub fn salghemu_run(
     options: &[u8],
     marks: &[u8],
