@@ -1,16 +1,26 @@
 -- Within a limit by two comparisons: -limit <= x and x <= limit. Assumes nothing.
-use mathlib.Core.Path.{◌≡◌, refl, sym, ◌∙◌}
-use mathlib.Core.Bool.{Bool, true, false}
-use Prim.Native.Nat.{ℕ, suc, ◌+◌, ◌*◌}
+use mathlib.Core.Path.{◌≡◌, refl, sym, ap, ◌∙◌}
+use mathlib.Core.Bool.{Bool, true, false, ◌&&◌}
+use mathlib.Core.List.{List}
+use Prim.Native.Nat.{ℕ, zero, suc, ◌+◌, ◌*◌, ◌/◌, ◌<◌}
+use Rattle.std.proofs.Math.Nat.{zero-mul, suc-mul, add_comm}
+use Rattle.std.proofs.Math.Bool.{and_assoc}
 use native.Mathlib.Omega.{arith}
 use borrow.Author.Tests.{lt-ltb, eq-eqb, ne_eqb, eqb-true, eqb-false}
 use lib.Dec.{eqb}
+use lib.ListN.{length, get_or, take, drop}
+use lib.Seq.{take-length}
 use lib.IntN.{ℤ, pos}
 use lib.Ieee.{Float, nan, inf, fin, up, down, of_bits, neg, lt, le, eq}
+use Rattle.std.specs.List.{list_all}
+use Rattle.std.specs.Simd.{first_chunks}
+use Rattle.std.proofs.lemmas.List.{take-append-drop, drop-drop}
+use Rattle.std.proofs.lemmas.List.Folds.{list_all-append, list_all_at}
 use Rattle.rule.proofs.Tests.{clash}
 use Rattle.rule.proofs.Zero.{size_pos}
 use Rattle.numbers.specs.Constants.{farthest}
 use Rattle.numbers.specs.Finite.{abs_of, is_finite, within}
+use Rattle.estimator.specs.Marks.{all_within}
 
 eqb_comm : (a b : ℕ) → eqb a b ≡ eqb b a
 eqb_comm a b = go (eqb a b) refl
@@ -58,3 +68,30 @@ in_range x h = low_enough 1953124 (pos 9) x h
 pub out_of_range : (x : Float) → le (neg farthest) x ≡ false → false ≡ within farthest x
 unfolding of_bits
 out_of_range x h = too_low 1953124 (pos 9) x h
+
+-- ---- part by part
+
+parts_first : (p : Float → Bool) (w k : ℕ) (l : List Float) → (list_all (list_all p) (first_chunks w k l) && list_all p (drop (k * w) l)) ≡ list_all p l
+parts_first p w zero l = ap (λ n. list_all p (drop n l)) (zero-mul w)
+parts_first p w (suc k) l =
+    let part = list_all p (take w l) in
+    let more = list_all (list_all p) (first_chunks w k (drop w l)) in
+    ap (λ left. (part && more) && list_all p left) (ap (λ n. drop n l) (suc-mul k w ∙ add_comm (k * w) w) ∙ sym (drop-drop (k * w) w l))
+    ∙ and_assoc part more (list_all p (drop (k * w) (drop w l)))
+    ∙ ap (λ b. part && b) (parts_first p w k (drop w l))
+    ∙ sym (list_all-append p (take w l) (drop w l))
+    ∙ ap (list_all p) (take-append-drop w l)
+
+-- where a list is cut into parts of 32 and a rest
+module _ (limit : Float) (l rest : List Float) (parts : List (List Float)) (cut : parts ≡ first_chunks 32 (length l / 32) l) (left : rest ≡ drop (length l / 32 * 32) l) where
+  by_parts : (list_all (all_within limit) parts && all_within limit rest) ≡ all_within limit l
+  unfolding all_within
+  by_parts = rw (cut, left) (parts_first (within limit) 32 (length l / 32) l)
+
+  pub part_fails : (i : ℕ) (d : List Float) → i < length parts → all_within limit (get_or parts i d) ≡ false → false ≡ all_within limit l
+  part_fails i d h fails = ap (λ b. b && all_within limit rest) (sym (list_all_at (all_within limit) parts i d h fails)) ∙ by_parts
+
+  pub parts_pass : (i : ℕ) → i ≡ length parts → list_all (all_within limit) (take i parts) ≡ true → all_within limit rest ≡ all_within limit l
+  parts_pass i e pass =
+      let all : list_all (all_within limit) parts ≡ true = sym (ap (list_all (all_within limit)) (ap (λ n. take n parts) e ∙ take-length parts)) ∙ pass in
+      ap (λ b. b && all_within limit rest) (sym all) ∙ by_parts

@@ -11,8 +11,8 @@ use lib.ListN.{length, get_or, take, drop, replicate, length-append, length-drop
 use lib.Seq.{take_at, take-add, take-append-le, drop_at, drop-append-le, drop-cons, drop-drop, length-take-le}
 use Rattle.std.proofs.lemmas.List.Folds.{list_all-append}
 use lib.Ieee.Fits.{and_i, and_l, and_r}
-use Rattle.rule.specs.Lists.{every, first_parts, for_each}
-use Rattle.fields.specs.Fields.{little_endian, byte_at, zero_bytes, all_bytes, bytes_of}
+use Rattle.rule.specs.Lists.{every, first_parts, parts_of, for_each}
+use Rattle.fields.specs.Fields.{little_endian, fields_of, longs_of, byte_at, zero_bytes, all_bytes, bytes_of}
 use Rattle.fields.specs.Packing.{size_of, unpacked, packed}
 use Rattle.fields.proofs.Writing.{bytes_wide}
 use Rattle.fields.proofs.Back.{spelled_back}
@@ -182,3 +182,31 @@ zero_spelled from w l h = ap (every (λ b. eqb b 0)) (middle from w l h) ∙ spe
 
 pub every_append : {A : Type 0} (test : A → Bool) (k l : List A) → every test (k ++ l) ≡ (every test k && every test l)
 every_append test k l = list_all-append test k l
+
+-- zero bytes as eight-byte fields
+zero_fields : (k : ℕ) (l : List ℕ) → every (λ b. eqb b 0) (take (8 * k) l) ≡ every (λ b. eqb b 0) (map little_endian (first_parts 8 k l))
+unfolding first_parts
+zero_fields zero l = refl
+zero_fields (suc k) l =
+    let e : 8 * suc k ≡ 8 + 8 * k = omega arith in
+    rw (e, take-add 8 (8 * k) l, every_append (λ b. eqb b 0) (take 8 l) (take (8 * k) (drop 8 l)), spelled_zero (take 8 l), zero_fields k (drop 8 l))
+
+-- some of the fields of a list, from place i on
+fields-first : (w k n : ℕ) (l : List ℕ) → k ≤ n → take k (map little_endian (first_parts w n l)) ≡ map little_endian (first_parts w k l)
+unfolding first_parts
+fields-first w zero n l h = refl
+fields-first w (suc k) zero l h = absurd (omega (arith, h))
+fields-first w (suc k) (suc n) l h = ap (λ rest. little_endian (take w l) ∷ rest) (fields-first w k n (drop w l) (omega (arith, h)))
+
+fields_from : (w i k n : ℕ) (l : List ℕ) → i + k ≤ n → take k (drop i (map little_endian (first_parts w n l))) ≡ map little_endian (first_parts w k (drop (w * i) l))
+unfolding first_parts
+fields_from w zero k n l h = fields-first w k n l (omega (arith, h)) ∙ rw (mul-zero w)
+fields_from w (suc i) k zero l h = absurd (omega (arith, h))
+fields_from w (suc i) k (suc n) l h = fields_from w i k n (drop w l) (omega (arith, h)) ∙ rw (drop-drop (w * i) w l, mul-suc w i, add_comm (w * i) w)
+
+pub zero_longs : (i k : ℕ) (l : List ℕ) → 8 * i + 8 * k ≤ length l → zero_bytes (8 * i) (8 * i + 8 * k) l ≡ every (λ b. eqb b 0) (take k (drop i (longs_of l)))
+unfolding zero_bytes longs_of fields_of parts_of
+zero_longs i k l h =
+    ap (every (λ b. eqb b 0)) (middle (8 * i) (8 * k) l (omega arith))
+    ∙ zero_fields k (drop (8 * i) l)
+    ∙ ap (every (λ b. eqb b 0)) (sym (fields_from 8 i k (length l / 8) l (omega arith)))

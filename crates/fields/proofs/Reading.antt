@@ -2,7 +2,8 @@
 use mathlib.Core.Path.{◌≡◌, refl, sym, ap, ◌∙◌}
 use mathlib.Core.Bool.{true}
 use mathlib.Core.List.{List, [], ◌∷◌, ◌++◌}
-use Prim.Native.Nat.{ℕ, zero, suc, ◌+◌, ◌*◌, ◌/◌, ◌≤◌, ◌<◌}
+use Prim.Native.Nat.{ℕ, zero, suc, ◌+◌, ◌*◌, ◌/◌, ◌^◌, ◌≤◌, ◌<◌}
+use native.Mathlib.Nat.{zero-add, one-mul, mul_assoc, pow-zero, pow-succ'}
 use native.Mathlib.Omega.{arith}
 use lib.ListN.{length, get_or, take, drop, set, length-drop, length-map, get_or-map}
 use lib.Seq.{length-take-le}
@@ -137,3 +138,13 @@ unfolding double_at long_at doubles_of
 double-read l i d h =
     sym (get_or-map (of_bits binary64) (longs_of l) i 0)
     ∙ place_read (doubles_of l) i (of_bits binary64 0) d (rw (doubles_count l) h)
+
+-- ---- the bytes of two lists, one behind the other
+
+pub spelled_append : (k l : List ℕ) → little_endian (k ++ l) ≡ little_endian k + 256 ^ length k * little_endian l
+unfolding little_endian
+spelled_append [] l = rw (pow-zero 256, one-mul (little_endian l), zero-add (little_endian l))
+spelled_append (b ∷ k) l =
+    let e = spelled_append k l in
+    let f : 256 ^ suc (length k) * little_endian l ≡ 256 * (256 ^ length k * little_endian l) = rw (pow-succ' 256 (length k), mul_assoc 256 (256 ^ length k) (little_endian l)) in
+    omega (arith, e, f)

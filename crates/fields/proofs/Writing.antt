@@ -2,7 +2,7 @@
 use mathlib.Core.Path.{◌≡◌, refl, sym, ap, ap₂, ◌∙◌}
 use mathlib.Core.List.{List, [], ◌∷◌, ◌++◌}
 use Prim.Native.Nat.{ℕ, zero, suc, ◌+◌, ◌-◌, ◌*◌, ◌/◌, ◌%◌, ◌^◌, ◌≤◌, ◌<◌}
-use native.Mathlib.Nat.{zero-add, le_of_lt, le_trans, mul_assoc, mul-zero, mul-suc, mul-le-mul_left, mod-add-div, mul_comm, div-one, le-div_iff_mul-le, div-lt_iff_lt-mul, div-div-eq-div-mul, pow-zero, pow-suc, pow-succ'}
+use native.Mathlib.Nat.{zero-add, suc-add, le_of_lt, le_trans, mul_assoc, mul-zero, mul-suc, mul-le-mul_left, mod-add-div, mul_comm, div-one, le-div_iff_mul-le, div-lt_iff_lt-mul, div-div-eq-div-mul, pow-zero, pow-suc, pow-succ'}
 use native.Mathlib.Omega.{arith}
 use borrow.Rule.Slice.PartMut.{mid_of, put_mid}
 use lib.ListN.{length, get_or, take, drop}
@@ -108,3 +108,9 @@ module _ {A : Type 0} (write : A → List ℕ) (w : ℕ) (l : List A) (entry : L
 -- a list copied to the front
 pub front_filled : {A : Type 0} (xs l : List A) {copy : List A} → copy ≡ xs → length xs ≤ length l → copy ++ drop (length xs) l ≡ filled xs l
 front_filled xs l e h = ap (λ c. c ++ drop (length xs) l) e ∙ sym (filled_is xs l h)
+
+-- the lower bytes, then the higher
+pub bytes_add : (v w n : ℕ) → bytes_of (v + w) n ≡ bytes_of v n ++ bytes_of w (n / 256 ^ v)
+unfolding bytes_of
+bytes_add zero w n = rw (zero-add w, pow-zero 256, div-one n)
+bytes_add (suc v) w n = rw (suc-add v w, bytes_add v w (n / 256), div-div-eq-div-mul n 256 (256 ^ v), pow-succ' 256 v)

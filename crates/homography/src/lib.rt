@@ -77,8 +77,14 @@ pub fn dlt_rows(marks: &[f64], rows: &mut [f64]) -> Result<(), Refusal>
     if on_one_line(as_pixels) {
         return Err(Refusal::PixelLine);
     }
-    let sheet = change_of(on_sheet).ok_or(Refusal::Spread)?;
-    let pixel = change_of(as_pixels).ok_or(Refusal::Spread)?;
+    let sheet = change_of(on_sheet);
+    if sheet.flat {
+        return Err(Refusal::Spread);
+    }
+    let pixel = change_of(as_pixels);
+    if pixel.flat {
+        return Err(Refusal::Spread);
+    }
     if rows.len() < 18 * estimator::mark_count::<Sheet>(marks) {
         return Err(Refusal::Room);
     }

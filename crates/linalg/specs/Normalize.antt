@@ -1,5 +1,5 @@
 -- Document 01, 'Normalising', of the points of one side: centroid, mean distance, scale, and the matrix of the change.
-use Rattle.std.specs.Prelude.{◌≡◌, ℕ, ◌*◌, Bool, ◌||◌, cond, List, [], ◌∷◌, ◌++◌, length, drop, ◌==◌, Option, Some, None, Result, Float}
+use Rattle.std.specs.Prelude.{◌≡◌, ℕ, ◌*◌, Bool, ◌||◌, List, [], ◌∷◌, ◌++◌, length, drop, ◌==◌, Result, Float}
 use Rattle.std.specs.Float.Ieee.{neg, le}
 use Rattle.rule.specs.declared.Refusal.{Refusal}
 use Rattle.rule.specs.Refusal.{SPREAD}
@@ -35,15 +35,15 @@ unfoldable pub no_spread : List Point → Bool
 no_spread ps = length ps == 0 || le (mean_distance (centroid_of ps) ps) epsilon
 
 -- The change to normalised coordinates: in the terms of the field, the similarity of Hartley's normalising. scale = root(2) / mean.
--- It says nothing where there is no spread.
-unfoldable pub similarity_of : List Point → Change
-similarity_of ps =
+-- `flat` is that there is no spread, and then the rest says nothing.
+unfoldable pub change_of : List Point → Change
+change_of ps =
     let centre = centroid_of ps in
-    record { centre = centre; scale = root_of two ⊘ mean_distance centre ps }
+    record { flat = no_spread ps; centre = centre; scale = root_of two ⊘ mean_distance centre ps }
 
--- that change, unless there is no spread
-unfoldable pub change_of : List Point → Option Change
-change_of ps = cond (no_spread ps) None (Some (similarity_of ps))
+-- the same by the field's name
+abbrev pub similarity_of : List Point → Change
+similarity_of ps = change_of ps
 
 -- (x−cx)·scale, (y−cy)·scale
 unfoldable pub normalized_by : Change → Point → Point

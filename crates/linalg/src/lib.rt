@@ -19,9 +19,12 @@ pub struct Row {
     pub cells: [f64; 3],
 }
 
-// The change to normalised coordinates: subtract the centre, multiply by the scale.
+// The change to normalised coordinates: subtract the centre, multiply by the scale. `flat` says that the
+// points have no spread, and then the rest says nothing. (A flag, since `change_of` gives the rest of such
+// points too: an `Option` has no place for it.)
 #[derive(Clone, Copy)]
 pub struct Change {
+    pub flat: bool,
     pub centre: Point,
     pub scale: f64,
 }
@@ -79,20 +82,18 @@ pub fn mean_distance(points: Points, centre: Point) -> f64
     mean_root(FromCentre { points, centre })
 }
 
-// The change that normalises one side; none where the points have no spread.
-#[tactic(auto, unfolding(crate::specs::Normalize::change_of, crate::specs::Normalize::similarity_of, crate::specs::Normalize::no_spread), using(crate::proofs::Changes::root_of_2))]
-pub fn change_of(points: Points) -> Option<Change>
+// The change that normalises one side, of any points.
+#[tactic(auto, unfolding(crate::specs::Normalize::change_of, crate::specs::Normalize::no_spread), using(crate::proofs::Changes::root_of_2))]
+pub fn change_of(points: Points) -> Change
     ensures { result ≡ change_of (points_of points.entry.side points.entry.marks.now) }
 {
     let centre = centroid(points);
     let mean = mean_distance(points, centre);
-    if points.len() == 0 || mean <= f64::EPSILON {
-        return None;
-    }
-    Some(Change {
+    Change {
+        flat: points.len() == 0 || mean <= f64::EPSILON,
         centre,
         scale: SQRT_2 / mean,
-    })
+    }
 }
 
 #[tactic(auto, unfolding(crate::specs::Normalize::normalized_by))]
@@ -144,7 +145,10 @@ pub fn normalize_points_2d(points: Points, lent: &mut [f64]) -> Result<Normalize
     ensures { Normalizing points.entry.marks.now points.entry.side lent.old result lent.new }
 {
     estimator::check_marks::<Sheet>(points.marks)?;
-    let change = change_of(points).ok_or(Refusal::Spread)?;
+    let change = change_of(points);
+    if change.flat {
+        return Err(Refusal::Spread);
+    }
     if lent.len() < 2 * points.len() {
         return Err(Refusal::Room);
     }

@@ -1,6 +1,6 @@
 -- What the standard library says of a double's sign and of what is finite, in the words of specs/Finite.antt. Assumes nothing.
 use mathlib.Core.Path.{◌≡◌, refl}
-use lib.Ieee.{Float, nan, inf, fin}
+use lib.Ieee.{Float, nan, inf, fin, binary64, of_bits, lt}
 use Rattle.std.specs.Float.{float_with_sign, float_is_finite}
 use mathlib.Core.Bool.{false}
 use Rattle.numbers.specs.Finite.{abs_of, is_finite}
@@ -16,3 +16,9 @@ unfolding float_is_finite is_finite
 finite nan = refl
 finite (inf s) = refl
 finite (fin s m e) = refl
+
+pub finite_below : (x : Float) → lt (abs_of x) (of_bits binary64 0x7ff0_0000_0000_0000) ≡ is_finite x
+unfolding abs_of is_finite lt of_bits
+finite_below nan = refl
+finite_below (inf s) = refl
+finite_below (fin s m e) = refl

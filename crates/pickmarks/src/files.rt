@@ -1,6 +1,6 @@
 // Reading the files that a run is opened with (document 01, 'Options', 'Marks', 'Stops'). A file that
 // can't be opened counts as empty. A read that fails is the end of its file.
-ghost use Rattle.std.specs.Prelude.{◌≡◌, ◌≤◌, [], ◌∷◌};
+ghost use Rattle.std.specs.Prelude.{◌≡◌, ◌≤◌, [], ◌∷◌, IfSome, length};
 ghost use Rattle.rule.specs.Refusal.{SHAPE};
 ghost use Rattle.rule.specs.Order.{first_failed};
 ghost use Rattle.estimator.specs.Marks.{shape_tests};
@@ -13,7 +13,9 @@ use std::fs;
 use std::rt::Files;
 
 // Reads a file into the front of `buffer`, as far as there is room: what was read.
-pub(crate) fn read_file<'b, R: Files>(rt: &R, path: &str, buffer: &'b mut [u8]) -> &'b [u8] {
+pub(crate) fn read_file<'b, R: Files>(rt: &R, path: &str, buffer: &'b mut [u8]) -> &'b [u8]
+    ensures { length result.now ≤ length buffer.old }
+{
     match fs::open(rt, path) {
         Ok(mut file) => {
             let len = reading::read_full(&mut file, buffer);
@@ -27,7 +29,8 @@ pub(crate) fn read_file<'b, R: Files>(rt: &R, path: &str, buffer: &'b mut [u8]) 
 // the tests that come before.
 #[tactic(auto, unfolding(rule::specs::Order::first_failed, estimator::specs::Marks::shape_tests, estimator::specs::Marks::shape))]
 fn none_given<'b>(numbers: &'b mut [f64; 8000]) -> &'b [f64]
-    ensures { first_failed (shape_tests sheet result.now) ≡ SHAPE }
+    ensures value { first_failed (shape_tests sheet result.now) ≡ SHAPE }
+    ensures upper_bound { length result.now ≤ 8000 }
 {
     &numbers[..1]
 }
@@ -38,6 +41,7 @@ fn none_given<'b>(numbers: &'b mut [f64; 8000]) -> &'b [f64]
 fn numbers_given<'b>(bytes: &[u8], numbers: &'b mut [f64; 8000]) -> &'b [f64]
     ensures refusal_value { first_failed (shape_tests sheet result.now) ≡ first_failed (mark_bytes 4 bytes.now ∷ []) }
     ensures value { first_failed (mark_bytes 4 bytes.now ∷ []) ≡ 0 → result.now ≡ numbers_in 4 bytes.now }
+    ensures upper_bound { length result.now ≤ 8000 }
 {
     match records::read_marks::<Sheet>(bytes, numbers) {
         Ok(n) => &numbers[..n],
@@ -60,7 +64,9 @@ fn entry_count(len: usize) -> usize
 
 // Reads the bytes of marks.bin: none where it goes on behind those that there is room for. Document 01
 // wants one buffer of 64,000 bytes, so the byte that is too many is read by itself.
-fn read_mark_bytes<'b, R: Files>(rt: &R, bytes: &'b mut [u8; 64000]) -> Option<&'b [u8]> {
+fn read_mark_bytes<'b, R: Files>(rt: &R, bytes: &'b mut [u8; 64000]) -> Option<&'b [u8]>
+    ensures { IfSome result (λ read. length read.now ≤ 64000) }
+{
     match fs::open(rt, "marks.bin") {
         Ok(mut file) => {
             let len = reading::read_full(&mut file, bytes);
@@ -74,7 +80,9 @@ fn read_mark_bytes<'b, R: Files>(rt: &R, bytes: &'b mut [u8; 64000]) -> Option<&
 }
 
 // Reads marks.bin into the front of `numbers`: those that the opening is given.
-pub(crate) fn read_marks<'b, R: Files>(rt: &R, numbers: &'b mut [f64; 8000]) -> &'b [f64] {
+pub(crate) fn read_marks<'b, R: Files>(rt: &R, numbers: &'b mut [f64; 8000]) -> &'b [f64]
+    ensures { length result.now ≤ 8000 }
+{
     // no heap
     let mut bytes = [0u8; 64000];
     match read_mark_bytes(rt, &mut bytes) {
@@ -84,7 +92,9 @@ pub(crate) fn read_marks<'b, R: Files>(rt: &R, numbers: &'b mut [f64; 8000]) -> 
 }
 
 // Reads stops.bin into the front of `entries`: those that the opening is given.
-pub(crate) fn read_stops<'b, R: Files>(rt: &R, entries: &'b mut [u32; 2001]) -> &'b [u32] {
+pub(crate) fn read_stops<'b, R: Files>(rt: &R, entries: &'b mut [u32; 2001]) -> &'b [u32]
+    ensures { length result.now ≤ 2001 }
+{
     // no heap; one byte more than the longest has, so that a longer file has a wrong length too
     let mut bytes = [0u8; 8005];
     let bytes = read_file(rt, "stops.bin", &mut bytes);

@@ -178,5 +178,10 @@ pub extern "C" fn probe_projection(
 {
     let h = Model::from([h0, h1, h2, h3, h4, h5, h6, h7, h8]);
     let to = sheet::project(h, Point { x, y });
-    flat::place_of(&[to.s, to.at.x, to.at.y], place)
+    match place {
+        0 => to.s,
+        1 => to.at.x,
+        2 => to.at.y,
+        _ => flat::none(),
+    }
 }

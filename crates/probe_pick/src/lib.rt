@@ -81,7 +81,8 @@ pub extern "C" fn probe_trial(
     ensures value { result ≡ tried_number 25 state.now out.old }
     ensures out_after { out.new ≡ tried_after 25 state.now (answer_words (trial_answer sheet (state_in state.now) (record { bytes = bytes.now; marks = marks.now; stops = stops.now }))) out.old }
 {
-    if state.len() < 25 {
+    // The room too, so that a trial whose words have none isn't tried.
+    if state.len() < 25 || out.len() < 29 {
         return words::NO_WORDS;
     }
     let call = Call {

@@ -27,7 +27,7 @@ use Rattle.book.specs.Score.{Trial, unfitted, fitted, refitted}
 use Rattle.fields.specs.Fields.{little_endian, longs_of, byte_at, word_at, long_at, double_at, zero_bytes}
 use Rattle.fields.specs.Packing.{size_of, unpacked}
 use Rattle.fields.proofs.Reading.{longs_count, long_spelled}
-use Rattle.fields.proofs.Packing.{Fit, fit-taken, fit-left, unpacked-fit}
+use Rattle.fields.proofs.Packing.{Fit, fit-taken, fit-left, unpacked-fit, zero_longs}
 use Rattle.estimator.specs.Family.{Family}
 use Rattle.estimator.specs.Numbers.{numbers_at, model_read}
 use Rattle.records.specs.Options.{layout_by, fields_in, options_sound, ratio_from, options_from, options_formed, options_record, options_of, options_answer, thresh, confidence, iters, options_tests}
@@ -244,3 +244,10 @@ module _ {E M K : Type 0} (f : Family E M K) where
   pub other_length : (l : List ℕ) → (length l ≡ 8 + 16 * f.size → ⊥) → trial_answer f l ≡ refused RECORD
   unfolding trial_answer trial_record trial_formed
   other_length l h = by_test (trial_formed f.size l) (trial_of f l) ∙ rw (trial_size f.size, ne_eqb (length l) (8 + 16 * f.size) h)
+
+-- ---- the numbers of an unmarked candidate, by their bytes
+
+pub model-empty : (l : List ℕ) (first : ℕ) → 8 * first + 72 ≤ length l → {mark : Bool} → mark ≡ false → {r : Bool} → r ≡ zero_bytes (8 * first) (8 * first + 72) l
+    → r ≡ numbers_formed mark (take 9 (drop first (longs_of l)))
+unfolding numbers_formed
+model-empty l first inside t f = rw t (f ∙ zero_longs first 9 l inside)
