@@ -14,7 +14,6 @@ ghost use Rattle.numbers.specs.Rank.{rank_ok};
 ghost use Rattle.probe.specs.Flat.{refusal_of, count_of, place_of};
 
 use numbers::Quadratic;
-use rule::Refusal;
 
 #[unsafe(no_mangle)]
 pub extern "C" fn probe_sqrt(a: f64) -> f64
@@ -32,17 +31,11 @@ pub extern "C" fn probe_sqrt_two(a: f64, b: f64, place: u32) -> f64
     flat::place_of(&[x, y], place)
 }
 
-// By the test alone: the root would be all the work, and nobody is told it.
-#[tactic(auto, using(crate::proofs::Refusal::has_a_root, crate::proofs::Refusal::has_none))]
 #[unsafe(no_mangle)]
 pub extern "C" fn probe_root_refusal(a: f64) -> u32
     ensures { result ≡ refusal_of (root_answer a) }
 {
-    if a >= 0.0 {
-        0
-    } else {
-        u32::from(Refusal::Number)
-    }
+    rule::number(root::root(a))
 }
 
 #[tactic(auto, unfolding(numbers::specs::Quadratic::view_quadratic))]

@@ -1,5 +1,5 @@
 -- `probe_trial` meets its contract. Assumes nothing.
-use Rattle.std.proofs.Common.{◌≡◌, refl, arith}
+use Rattle.std.proofs.Common.{arith}
 use Rattle.probe_pick.proofs.Wide.{no_state, no_room}
 use Rattle.probe_pick.proofs.probe_trial.Goals as goal
 use Rattle.probe_pick.proofs.probe_trial.Goals.{then-state-lt25-via-then-state-lt25, then-state-lt25-via-else-state-lt25+then-out-lt29}
