@@ -28,7 +28,9 @@ fn winner_words(best: Option<Winner<Model>>) -> [u64; 13]
 
 // A state's words. (The ratio's, the last, before the winner's: the other way round the check doesn't
 // find the list. So in a trial's.)
+// Inlined, since the compiler has the C library's memcpy copy an array of so many words that is handed back.
 #[tactic(auto, unfolding(words::specs::Words::run_words))]
+#[inline(always)]
 pub(crate) fn state_words(s: State<Sheet, Model>) -> [u64; 25]
     ensures { result ≡ state_words (view_state s) }
 {
