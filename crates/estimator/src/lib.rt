@@ -2,14 +2,11 @@
 // `Estimator`): what each family gives, and the tests of a list of marks, which all of them share.
 #![tactic(auto)]
 
-ghost use Rattle.std.specs.Prelude.{◌≡◌, OnOk, true, ℕ, List, ◌≤◌, ◌<◌, ◌*◌, ◌/◌, eqb, length, take, drop, Float};
-ghost use Rattle.std.specs.Float.{binary64};
-ghost use Rattle.std.specs.Float.Ieee.{to_bits};
+ghost use Rattle.std.specs.Prelude.{◌≡◌, OnOk, true, ℕ, List, ◌≤◌, ◌<◌, ◌*◌, ◌/◌, length, take, drop, Float};
 ghost use Rattle.rule.specs.Answer.{refusal_in, told, OneAnswer};
-ghost use Rattle.rule.specs.Lists.{every};
 ghost use Rattle.rule.specs.Order.{first_failed, all_numbered};
 ghost use Rattle.numbers.specs.Constants.{farthest};
-ghost use Rattle.numbers.specs.Finite.{all_finite, within};
+ghost use Rattle.numbers.specs.Finite.{all_finite};
 ghost use Rattle.estimator.specs.Family.{Family, mark_at, measure_of, squared_distance_of};
 ghost use Rattle.estimator.specs.Marks.{all_within, shape_tests, marks_tests, enough_tests, run_tests};
 ghost use Rattle.estimator.specs.Numbers.{doubles_formed, model_read};
@@ -124,23 +121,16 @@ pub fn check_shape<E: Estimator>(marks: &[f64]) -> Result<(), Refusal>
     Ok(())
 }
 
-// Finite, and of magnitude at most 1e9: by two comparisons, since every mark is tested.
-#[tactic(auto, using(crate::proofs::Range::in_range, crate::proofs::Range::out_of_range))]
-fn in_range(x: f64) -> bool
-    ensures { result ≡ within farthest x }
-{
-    (-1e9 <= x) & (x <= 1e9)
-}
-
-// Whether every number of a part is in range. All are looked at: where nearly every list passes, a jump for
-// each number is what takes the time.
-#[tactic(auto, unfolding(crate::specs::Marks::all_within), using(std::proofs::lemmas::List::Folds::list_all_more))]
+// Whether every number of a part is in range: finite, and of magnitude at most 1e9, by two comparisons, since
+// every mark is tested. All are looked at: where nearly every list passes, a jump for each number is what takes
+// the time.
+#[tactic(auto, unfolding(crate::specs::Marks::all_within), using(std::proofs::lemmas::List::Folds::list_all_more, crate::proofs::Range::in_range, crate::proofs::Range::out_of_range))]
 fn part_in_range(numbers: &[f64]) -> bool
     ensures { result ≡ all_within farthest numbers.now }
 {
     let mut all = true;
     for x in numbers {
-        all &= in_range(*x);
+        all &= (-1e9 <= *x) & (*x <= 1e9);
     }
     all
 }
@@ -203,12 +193,6 @@ pub fn check_run<E: Estimator>(marks: &[f64]) -> Result<(), Refusal>
     check_enough::<E>(marks)
 }
 
-fn zero_bits(numbers: &[f64]) -> bool
-    ensures { result ≡ every (λ x. eqb (to_bits binary64 x) 0) numbers.now }
-{
-    numbers.iter().all(|x| fields::bits_of(*x) == 0)
-}
-
 // Whether numbers may stand in a record: finite where they are marked, else zero bits.
 #[tactic(auto, unfolding(crate::specs::Numbers::doubles_formed))]
 pub fn numbers_formed(mark: bool, numbers: &[f64]) -> bool
@@ -217,7 +201,7 @@ pub fn numbers_formed(mark: bool, numbers: &[f64]) -> bool
     if mark {
         numbers::ensure_finite(numbers)
     } else {
-        zero_bits(numbers)
+        numbers.iter().all(|x| fields::bits_of(*x) == 0)
     }
 }
 
